@@ -1,0 +1,4 @@
+pub mod Bools
+pub mod Loops
+pub mod Tables
+pub mod Tests

@@ -1,0 +1,1 @@
+// Lists and tests on them: definitions in specs/, laws in proofs/. There is no code here.

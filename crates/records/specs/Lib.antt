@@ -1,0 +1,4 @@
+pub mod Names
+pub mod Maps
+pub mod Ports
+pub mod Carriers

@@ -1,0 +1,5 @@
+// What a port and a carrier are, and the record that follows.
+pub mod carrier;
+pub mod map;
+pub mod name;
+pub mod port;

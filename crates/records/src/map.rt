@@ -1,0 +1,36 @@
+// A slot map: 25 codes, each 0 to 5.
+ghost use mathlib.Core.Path.{_≡_};
+ghost use Rattle.records.specs.Maps.{isMap, inMap};
+
+// Whether codes of any length are a slot map.
+pub fn is_map(codes: &[u8]) -> bool
+    ensures { λ r. ⌜ r ≡ isMap (now (codes .entry)) ⌝ }
+{
+    let n = codes.len();
+    if n != 25 {
+        return false;
+    }
+    let mut good = true;
+    let mut i = n;
+    while 0 < i {
+        i -= 1;
+        let a = codes[i];
+        good = (a <= 5) & good;
+    }
+    good
+}
+
+// The first 25 codes, with zeros after fewer.
+pub fn in_map(codes: &[u8]) -> [u8; 25]
+    ensures { λ r. ⌜ r ≡ inMap (now (codes .entry)) ⌝ }
+{
+    let mut map = [0; 25];
+    let mut i = 0;
+    while i < 25 {
+        if i < codes.len() {
+            map[i] = codes[i];
+        }
+        i += 1;
+    }
+    map
+}

@@ -1,0 +1,80 @@
+// A name: 1 to 16 bytes, each 0x21 to 0x7E, kept in sixteen bytes with zeros after it.
+ghost use mathlib.Core.Path.{_≡_};
+ghost use Rattle.records.specs.Names.{noName, sameName, holdsName, isName, inBytes};
+
+#[repr(C)]
+pub struct Name {
+    pub bytes: [u8; 16],
+}
+
+impl Name {
+    pub fn none() -> Name
+        ensures { λ r. ⌜ r ≡ noName ⌝ }
+    {
+        Name { bytes: [0; 16] }
+    }
+
+    pub fn same(self, other: Name) -> bool
+        ensures { λ r. ⌜ r ≡ sameName self other ⌝ }
+    {
+        let mut same = true;
+        let mut i = 16;
+        while 0 < i {
+            i -= 1;
+            same = (self.bytes[i] == other.bytes[i]) & same;
+        }
+        same
+    }
+
+    // Graphic bytes, at least one, and zeros after them.
+    pub fn holds_name(self) -> bool
+        ensures { λ r. ⌜ r ≡ holdsName self ⌝ }
+    {
+        let mut next: u8 = 0;
+        let mut good = true;
+        let mut i = 16;
+        while 0 < i {
+            i -= 1;
+            let b = self.bytes[i];
+            good = (((b == 0) & (next == 0)) | ((0x21 <= b) & (b <= 0x7E))) & good;
+            next = b;
+        }
+        good & (next != 0)
+    }
+}
+
+// Whether a text of any length is a name.
+pub fn is_name(text: &[u8]) -> bool
+    ensures { λ r. ⌜ r ≡ isName (now (text .entry)) ⌝ }
+{
+    let n = text.len();
+    if n < 1 {
+        return false;
+    }
+    if 16 < n {
+        return false;
+    }
+    let mut good = true;
+    let mut i = n;
+    while 0 < i {
+        i -= 1;
+        let b = text[i];
+        good = ((0x21 <= b) & (b <= 0x7E)) & good;
+    }
+    good
+}
+
+// A text's first sixteen bytes, with zeros after a shorter one.
+pub fn in_bytes(text: &[u8]) -> Name
+    ensures { λ r. ⌜ r ≡ inBytes (now (text .entry)) ⌝ }
+{
+    let mut bytes = [0; 16];
+    let mut i = 0;
+    while i < 16 {
+        if i < text.len() {
+            bytes[i] = text[i];
+        }
+        i += 1;
+    }
+    Name { bytes }
+}

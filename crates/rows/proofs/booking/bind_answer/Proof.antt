@@ -1,0 +1,5 @@
+use Rattle.rows.proofs.booking.bind_answer.Statement.{statement}
+use Rattle.rows.proofs.booking.bind_answer.Tie as tie
+
+pub bind-answer-spec : {M : Type 1} → statement M
+bind-answer-spec = tie.close (tie.spec (λ c κs. tt) (λ c κs. tt) (λ c κs. tt) (λ c κs. tt) (λ c κs. tt) (λ c κs. tt) (λ c κs. tt) (λ c κs. tt) (λ c κs. tt) (λ c κs. tt) (λ c. cc))

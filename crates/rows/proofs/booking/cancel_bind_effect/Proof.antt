@@ -1,0 +1,5 @@
+use Rattle.rows.proofs.booking.cancel_bind_effect.Statement.{statement}
+use Rattle.rows.proofs.booking.cancel_bind_effect.Tie as tie
+
+pub cancel-bind-effect-spec : {M : Type 1} → statement M
+cancel-bind-effect-spec = tie.close (tie.spec (λ c κs. tt) (λ c κs. tt) (λ c κs. tt) (λ c κs. tt) (λ c κs. tt) (λ c. cc))

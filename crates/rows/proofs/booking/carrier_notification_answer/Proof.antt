@@ -1,0 +1,5 @@
+use Rattle.rows.proofs.booking.carrier_notification_answer.Statement.{statement}
+use Rattle.rows.proofs.booking.carrier_notification_answer.Tie as tie
+
+pub carrier-notification-answer-spec : {M : Type 1} → statement M
+carrier-notification-answer-spec = tie.close (tie.spec (λ c κs. tt) (λ c κs. tt) (λ c κs. tt) (λ c κs. tt) (λ c κs. tt) (λ c. cc))

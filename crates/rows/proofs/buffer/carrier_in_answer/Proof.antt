@@ -1,0 +1,5 @@
+use Rattle.rows.proofs.buffer.carrier_in_answer.Statement.{statement}
+use Rattle.rows.proofs.buffer.carrier_in_answer.Tie as tie
+
+pub carrier-in-answer-spec : {M : Type 1} → statement M
+carrier-in-answer-spec = tie.close (tie.spec (λ c κs. tt) (λ c κs. tt) (λ c κs. tt) (λ c κs. tt) (λ c κs. tt) (λ c. cc))

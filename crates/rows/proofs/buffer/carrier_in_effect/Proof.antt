@@ -1,0 +1,5 @@
+use Rattle.rows.proofs.buffer.carrier_in_effect.Statement.{statement}
+use Rattle.rows.proofs.buffer.carrier_in_effect.Tie as tie
+
+pub carrier-in-effect-spec : {M : Type 1} → statement M
+carrier-in-effect-spec = tie.close (tie.spec (λ c κs. tt) (λ c κs. tt) (λ c κs. tt) (λ c. cc))

@@ -1,0 +1,5 @@
+use Rattle.rows.proofs.opening.close_answer.Statement.{statement}
+use Rattle.rows.proofs.opening.close_answer.Tie as tie
+
+pub close-answer-spec : {M : Type 1} → statement M
+close-answer-spec = tie.close (tie.spec (λ c κs. tt) (λ c κs. tt) (λ c κs. tt) (λ c κs. tt) (λ c. cc))

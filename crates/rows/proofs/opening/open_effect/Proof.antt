@@ -1,0 +1,5 @@
+use Rattle.rows.proofs.opening.open_effect.Statement.{statement}
+use Rattle.rows.proofs.opening.open_effect.Tie as tie
+
+pub open-effect-spec : {M : Type 1} → statement M
+open-effect-spec = tie.close (tie.spec (λ c κs. tt) (λ c κs. tt) (λ c. cc))

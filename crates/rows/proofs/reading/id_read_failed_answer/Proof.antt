@@ -1,0 +1,5 @@
+use Rattle.rows.proofs.reading.id_read_failed_answer.Statement.{statement}
+use Rattle.rows.proofs.reading.id_read_failed_answer.Tie as tie
+
+pub id-read-failed-answer-spec : {M : Type 1} → statement M
+id-read-failed-answer-spec = tie.close (tie.spec (λ c κs. tt) (λ c κs. tt) (λ c κs. tt) (λ c κs. tt) (λ c. cc))

@@ -1,0 +1,7 @@
+use Rattle.rules.specs.Verdict.{cancelAt}
+use Rattle.rows.proofs.verdict.cancel_at.Statement.{statement}
+use Rattle.rows.proofs.verdict.cancel_at.Tie as tie
+
+pub cancel-at-spec : {M : Type 1} → statement M
+unfolding cancelAt
+cancel-at-spec = tie.close (tie.spec (λ c κs. tt) (λ c κs. tt) (λ c κs. tt) (λ c. cc))

@@ -1,0 +1,5 @@
+use Rattle.rows.proofs.verdict.cancel_carrier_answer.Statement.{statement}
+use Rattle.rows.proofs.verdict.cancel_carrier_answer.Tie as tie
+
+pub cancel-carrier-answer-spec : {M : Type 1} → statement M
+cancel-carrier-answer-spec = tie.close (tie.spec (λ c κs. tt) (λ c κs. tt) (λ c κs. tt) (λ c κs. tt) (λ c κs. tt) (λ c κs. tt) (λ c κs. tt) (λ c κs. tt) (λ c κs. tt) (λ c κs. tt) (λ c κs. tt) (λ c κs. tt) (λ c κs. tt) (λ c. cc))

@@ -1,0 +1,7 @@
+use Rattle.rules.specs.Verdict.{cancelPort}
+use Rattle.rows.proofs.verdict.cancel_port.Statement.{statement}
+use Rattle.rows.proofs.verdict.cancel_port.Tie as tie
+
+pub cancel-port-spec : {M : Type 1} → statement M
+unfolding cancelPort
+cancel-port-spec = tie.close (tie.spec (λ c κs. tt) (λ c κs. tt) (λ c κs. tt) (λ c κs. tt) (λ c κs. tt) (λ c. cc))

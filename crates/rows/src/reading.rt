@@ -1,0 +1,83 @@
+// Rows 16 and 17: the tag of a pod is read, or can't be.
+ghost use mathlib.Core.Path.{_≡_};
+ghost use Rattle.rules.specs.Row.{judge};
+ghost use Rattle.rules.specs.Reading.{readable, elsewhere, matching, displaced, idRead, idReadFailed};
+use crate::ask::either;
+use crate::ask::either_carrier;
+use crate::ask::first;
+use crate::ask::found_or_new;
+use crate::ask::is_port;
+use crate::ask::is_tied;
+use crate::ask::known;
+use crate::ask::on_both;
+use crate::ask::other_port;
+use crate::ask::placed;
+use records::carrier::Carrier;
+use records::port::Port;
+use rules::row::Effect;
+use rules::row::Seen;
+
+fn readable(q: Port) -> bool
+    ensures { λ r. ⌜ r ≡ readable q ⌝ }
+{
+    (q.pod == 1) & (q.movement == 0) & (q.tag == 0)
+}
+
+fn elsewhere(x: Seen) -> bool
+    ensures { λ r. ⌜ r ≡ elsewhere x ⌝ }
+{
+    let c = x.found;
+    placed(x) | (known(x) & (c.port != 0) & other_port(x, c))
+}
+
+fn matching(x: Seen) -> bool
+    ensures { λ r. ⌜ r ≡ matching x ⌝ }
+{
+    known(x) & ((x.holds == x.stands) | !is_tied(x))
+}
+
+fn displaced(x: Seen) -> usize
+    ensures { λ r. ⌜ r ≡ displaced x ⌝ }
+{
+    either(x.holds == x.stands, x.count, x.holds)
+}
+
+pub fn id_read_answer(x: Seen) -> u8
+    ensures { λ r. ⌜ r ≡ judge (idRead x .grounds) ⌝ }
+{
+    let a = first(elsewhere(x), 3, first(!readable(x.here), 5, 0));
+    first(!is_port(x), 1, first(!x.named, 1, a))
+}
+
+pub fn id_read_effect(x: Seen) -> Effect
+    ensures { λ r. ⌜ r ≡ idRead x .effect ⌝ }
+{
+    let q = x.here;
+    let becomes = q.tag_read(x.name);
+    let next = found_or_new(x)
+        .placed_at(x.port)
+        .with_id(first(matching(x), 3, 2));
+    Effect {
+        port: x.port,
+        becomes,
+        goes: displaced(x),
+        changes: x.stands,
+        next,
+        made: !known(x),
+    }
+}
+
+pub fn id_read_failed_answer(x: Seen) -> u8
+    ensures { λ r. ⌜ r ≡ judge (idReadFailed x .grounds) ⌝ }
+{
+    first(!is_port(x), 1, first(!readable(x.here), 5, 0))
+}
+
+pub fn id_read_failed_effect(x: Seen) -> Effect
+    ensures { λ r. ⌜ r ≡ idReadFailed x .effect ⌝ }
+{
+    let q = x.here;
+    let c = x.tied;
+    let next = either_carrier(is_tied(x), c.placed_at(x.port).with_id(2), Carrier::none());
+    on_both(x, x.port, q.tag_not_read(), x.holds, next)
+}

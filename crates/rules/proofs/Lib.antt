@@ -1,0 +1,2 @@
+pub mod TwelveRows
+pub mod Lowest

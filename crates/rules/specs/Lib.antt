@@ -1,0 +1,16 @@
+pub mod State
+pub mod Sound
+pub mod Seen
+pub mod Row
+pub mod Booking
+pub mod Verdict
+pub mod Buffer
+pub mod Service
+pub mod Transfer
+pub mod Reading
+pub mod Opening
+pub mod Rows
+pub mod Reports
+pub mod Outcome
+pub mod Run
+pub mod TwelveRows

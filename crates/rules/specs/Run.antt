@@ -1,0 +1,33 @@
+-- A run: inputs one after the other, and what each gives.
+use Prim.Native.Nat.{ℕ}
+use mathlib.Core.Bool.{cond}
+use mathlib.Core.List.{List, [], _∷_}
+use lib.Dec.{eqb}
+use Rattle.rules.specs.declared.report.Report.{Report}
+use Rattle.rules.specs.State.{State}
+use Rattle.rules.specs.Seen.{Input}
+use Rattle.rules.specs.Reports.{differences}
+use Rattle.rules.specs.Outcome.{answerIn, stateAfter}
+
+-- the state that a run ends in
+unfoldable pub run : State → List Input → State
+run s [] = s
+run s (i ∷ is) = run (stateAfter s i) is
+
+-- A line of a run's table: the input, the answer, the reports.
+pub record Line : Type 0 where
+  pub input : Input
+  pub answer : ℕ
+  pub reports : List Report
+
+abbrev pub lineOf : State → Input → Line
+lineOf s i = record {
+  input = i;
+  answer = answerIn s i;
+  reports = cond (eqb (answerIn s i) 0) (differences s (stateAfter s i)) [];
+}
+
+-- the table of a run
+unfoldable pub table : State → List Input → List Line
+table s [] = []
+table s (i ∷ is) = lineOf s i ∷ table (stateAfter s i) is
