@@ -6,13 +6,8 @@ use crate::ask::either;
 use crate::ask::either_carrier;
 use crate::ask::either_port;
 use crate::ask::first;
-use crate::ask::full;
-use crate::ask::is_port;
-use crate::ask::is_port_or_none;
-use crate::ask::known;
 use crate::ask::on_port_and_gone;
 use crate::ask::other_port;
-use crate::ask::reserved_or_tied;
 use records::carrier::Carrier;
 use records::port::Port;
 use rules::row::Effect;
@@ -21,9 +16,9 @@ use rules::row::Seen;
 pub fn bind_answer(x: Seen) -> u8
     ensures { λ r. ⌜ r ≡ judge (bind x .grounds) ⌝ }
 {
-    let a = first(x.here.transfer != 1, 5, first(full(x), 6, 0));
-    let b = first(known(x), 3, first(reserved_or_tied(x), 4, a));
-    first(!is_port(x), 1, first(!x.named, 1, b))
+    let a = first(x.here.transfer != 1, 5, first(x.full, 6, 0));
+    let b = first(x.known, 3, first((x.here.reserved == 1) | x.tied, 4, a));
+    first(!x.isport, 1, first(!x.named, 1, b))
 }
 
 pub fn bind_effect(x: Seen) -> Effect
@@ -45,7 +40,7 @@ pub fn bind_effect(x: Seen) -> Effect
 fn meant(x: Seen) -> Carrier
     ensures { λ r. ⌜ r ≡ meant x ⌝ }
 {
-    either_carrier(x.blank, x.tied, x.found)
+    either_carrier(x.blank, x.held, x.found)
 }
 
 fn meant_port(x: Seen) -> Port
@@ -70,17 +65,17 @@ pub fn cancel_bind_answer(x: Seen) -> u8
     ensures { λ r. ⌜ r ≡ judge (cancelBind x .grounds) ⌝ }
 {
     let a = first(
-        !(x.blank | known(x)),
+        !(x.blank | x.known),
         2,
         first(!one_pair(x, meant(x), meant_port(x)), 5, 0),
     );
     first(
-        !is_port_or_none(x),
+        !(x.isport | x.noport),
         1,
         first(
             !(x.blank | x.named),
             1,
-            first((x.port == 0) & x.blank, 1, a),
+            first(x.noport & x.blank, 1, a),
         ),
     )
 }
@@ -90,13 +85,13 @@ pub fn cancel_bind_effect(x: Seen) -> Effect
 {
     let c = meant(x);
     let q = meant_port(x);
-    on_port_and_gone(x, c.port, q.unbound(), meant_stands(x))
+    on_port_and_gone(x.count, c.port, q.unbound(), meant_stands(x))
 }
 
 pub fn carrier_notification_answer(x: Seen) -> u8
     ensures { λ r. ⌜ r ≡ judge (carrierNotification x .grounds) ⌝ }
 {
-    first(!x.named, 1, first(known(x), 3, first(full(x), 6, 0)))
+    first(!x.named, 1, first(x.known, 3, first(x.full, 6, 0)))
 }
 
 pub fn carrier_notification_effect(x: Seen) -> Effect
@@ -121,12 +116,12 @@ pub fn cancel_carrier_notification_answer(x: Seen) -> u8
     first(
         !x.named,
         1,
-        first(!known(x), 2, first(!((c.place == 0) & (c.port == 0)), 5, 0)),
+        first(!x.known, 2, first(!((c.place == 0) & (c.port == 0)), 5, 0)),
     )
 }
 
 pub fn cancel_carrier_notification_effect(x: Seen) -> Effect
     ensures { λ r. ⌜ r ≡ cancelCarrierNotification x .effect ⌝ }
 {
-    on_port_and_gone(x, 0, Port::none(), x.stands)
+    on_port_and_gone(x.count, 0, Port::none(), x.stands)
 }

@@ -3,10 +3,7 @@ ghost use mathlib.Core.Path.{_≡_};
 ghost use Rattle.rules.specs.Row.{judge};
 ghost use Rattle.rules.specs.Buffer.{canComeOut, carrierOut, canGoBack, carrierIn, canMoveIn, verifiedHere, moveIn};
 use crate::ask::first;
-use crate::ask::is_port;
-use crate::ask::known;
 use crate::ask::on_both;
-use crate::ask::reserved_or_tied;
 use rules::row::Effect;
 use rules::row::Seen;
 
@@ -21,11 +18,11 @@ pub fn carrier_out_answer(x: Seen) -> u8
     ensures { λ r. ⌜ r ≡ judge (carrierOut x .grounds) ⌝ }
 {
     let a = first(
-        !known(x),
+        !x.known,
         2,
-        first(reserved_or_tied(x), 4, first(!can_come_out(x), 5, 0)),
+        first((x.here.reserved == 1) | x.tied, 4, first(!can_come_out(x), 5, 0)),
     );
-    first(!x.named, 1, first(!is_port(x), 1, a))
+    first(!x.named, 1, first(!x.isport, 1, a))
 }
 
 pub fn carrier_out_effect(x: Seen) -> Effect
@@ -34,7 +31,7 @@ pub fn carrier_out_effect(x: Seen) -> Effect
     let q = x.here;
     let c = x.found;
     on_both(
-        x,
+        x.count,
         x.port,
         q.handed_out(x.name),
         x.stands,
@@ -55,7 +52,7 @@ pub fn carrier_in_answer(x: Seen) -> u8
     first(
         !x.named,
         1,
-        first(!known(x), 2, first(!can_go_back(x), 5, 0)),
+        first(!x.known, 2, first(!can_go_back(x), 5, 0)),
     )
 }
 
@@ -64,7 +61,7 @@ pub fn carrier_in_effect(x: Seen) -> Effect
 {
     let q = x.home;
     let c = x.found;
-    on_both(x, c.port, q.to_blocked(), x.stands, c.taken_back())
+    on_both(x.count, c.port, q.to_blocked(), x.stands, c.taken_back())
 }
 
 fn can_move_in(x: Seen) -> bool
@@ -77,7 +74,7 @@ fn can_move_in(x: Seen) -> bool
 fn verified_here(x: Seen) -> bool
     ensures { λ r. ⌜ r ≡ verifiedHere x ⌝ }
 {
-    let c = x.tied;
+    let c = x.held;
     (c.place == 1) & (c.id == 3)
 }
 
@@ -90,7 +87,7 @@ pub fn move_in_answer(x: Seen) -> u8
         first(!verified_here(x), 7, first(x.taken, 8, 0)),
     );
     first(
-        !is_port(x),
+        !x.isport,
         1,
         first(!((1 <= x.value) & (x.value <= x.places)), 1, a),
     )
@@ -100,6 +97,6 @@ pub fn move_in_effect(x: Seen) -> Effect
     ensures { λ r. ⌜ r ≡ moveIn x .effect ⌝ }
 {
     let q = x.here;
-    let c = x.tied;
-    on_both(x, x.port, q.emptied(), x.holds, c.moved_in(x.value))
+    let c = x.held;
+    on_both(x.count, x.port, q.emptied(), x.holds, c.moved_in(x.value))
 }

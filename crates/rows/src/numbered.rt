@@ -125,6 +125,6 @@ pub fn effect_of(number: u32, x: Seen) -> Effect
         24 => unload_start_effect(x),
         25 => unload_done_effect(x),
         26 => unload_fail_effect(x),
-        _ => on_port(x, 0, Port::none()),
+        _ => on_port(x.count, 0, Port::none()),
     }
 }

@@ -4,8 +4,6 @@ ghost use Rattle.rules.specs.Row.{judge};
 ghost use Rattle.rules.specs.Opening.{canOpen, notVerified, openerInUse, openRow, slotMap, accessStart, accessEnd, leavesPort, closeRow};
 use crate::ask::either_port;
 use crate::ask::first;
-use crate::ask::is_choice;
-use crate::ask::known;
 use crate::ask::on_both;
 use crate::ask::on_record;
 use records::port::Port;
@@ -44,14 +42,14 @@ pub fn open_answer(x: Seen) -> u8
         5,
         first(not_verified(x), 7, first(opener_in_use(x), 8, 0)),
     );
-    first(!x.named, 1, first(!known(x), 2, a))
+    first(!x.named, 1, first(!x.known, 2, a))
 }
 
 pub fn open_effect(x: Seen) -> Effect
     ensures { λ r. ⌜ r ≡ openRow x .effect ⌝ }
 {
     let c = x.found;
-    on_record(x, x.stands, c.with_opened(1))
+    on_record(x.count, x.stands, c.with_opened(1))
 }
 
 pub fn slot_map_answer(x: Seen) -> u8
@@ -59,7 +57,7 @@ pub fn slot_map_answer(x: Seen) -> u8
 {
     let c = x.found;
     let a = first(
-        !known(x),
+        !x.known,
         2,
         first(!((c.opened == 1) & (c.slot == 1)), 5, 0),
     );
@@ -71,7 +69,7 @@ pub fn slot_map_effect(x: Seen) -> Effect
 {
     let c = x.found;
     let map = x.map;
-    on_record(x, x.stands, c.with_map(map, 2))
+    on_record(x.count, x.stands, c.with_map(map, 2))
 }
 
 pub fn access_start_answer(x: Seen) -> u8
@@ -83,28 +81,28 @@ pub fn access_start_answer(x: Seen) -> u8
         5,
         first(c.slot != 3, 7, 0),
     );
-    first(!x.named, 1, first(!known(x), 2, a))
+    first(!x.named, 1, first(!x.known, 2, a))
 }
 
 pub fn access_start_effect(x: Seen) -> Effect
     ensures { λ r. ⌜ r ≡ accessStart x .effect ⌝ }
 {
     let c = x.found;
-    on_record(x, x.stands, c.with_accessing(2))
+    on_record(x.count, x.stands, c.with_accessing(2))
 }
 
 pub fn access_end_answer(x: Seen) -> u8
     ensures { λ r. ⌜ r ≡ judge (accessEnd x .grounds) ⌝ }
 {
-    let a = first(!known(x), 2, first(x.found.accessing != 2, 5, 0));
-    first(!x.named, 1, first(!is_choice(x), 1, a))
+    let a = first(!x.known, 2, first(x.found.accessing != 2, 5, 0));
+    first(!x.named, 1, first(!(x.value <= 1), 1, a))
 }
 
 pub fn access_end_effect(x: Seen) -> Effect
     ensures { λ r. ⌜ r ≡ accessEnd x .effect ⌝ }
 {
     let c = x.found;
-    on_record(x, x.stands, c.with_accessing(first(x.value == 0, 3, 4)))
+    on_record(x.count, x.stands, c.with_accessing(first(x.value == 0, 3, 4)))
 }
 
 pub fn close_answer(x: Seen) -> u8
@@ -115,7 +113,7 @@ pub fn close_answer(x: Seen) -> u8
         !x.named,
         1,
         first(
-            !known(x),
+            !x.known,
             2,
             first(!((c.opened == 1) & (c.accessing != 2)), 5, 0),
         ),
@@ -136,7 +134,7 @@ pub fn close_effect(x: Seen) -> Effect
     let q = x.home;
     let leaves = leaves_port(x);
     on_both(
-        x,
+        x.count,
         first(leaves, c.port, 0),
         either_port(leaves, q.to_unload(), Port::none()),
         x.stands,

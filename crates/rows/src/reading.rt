@@ -6,9 +6,6 @@ use crate::ask::either;
 use crate::ask::either_carrier;
 use crate::ask::first;
 use crate::ask::found_or_new;
-use crate::ask::is_port;
-use crate::ask::is_tied;
-use crate::ask::known;
 use crate::ask::on_both;
 use crate::ask::other_port;
 use crate::ask::placed;
@@ -27,13 +24,13 @@ fn elsewhere(x: Seen) -> bool
     ensures { λ r. ⌜ r ≡ elsewhere x ⌝ }
 {
     let c = x.found;
-    placed(x) | (known(x) & (c.port != 0) & other_port(x, c))
+    placed(x) | (x.known & (c.port != 0) & other_port(x, c))
 }
 
 fn matching(x: Seen) -> bool
     ensures { λ r. ⌜ r ≡ matching x ⌝ }
 {
-    known(x) & ((x.holds == x.stands) | !is_tied(x))
+    x.known & ((x.holds == x.stands) | !x.tied)
 }
 
 fn displaced(x: Seen) -> usize
@@ -46,7 +43,7 @@ pub fn id_read_answer(x: Seen) -> u8
     ensures { λ r. ⌜ r ≡ judge (idRead x .grounds) ⌝ }
 {
     let a = first(elsewhere(x), 3, first(!readable(x.here), 5, 0));
-    first(!is_port(x), 1, first(!x.named, 1, a))
+    first(!x.isport, 1, first(!x.named, 1, a))
 }
 
 pub fn id_read_effect(x: Seen) -> Effect
@@ -63,21 +60,21 @@ pub fn id_read_effect(x: Seen) -> Effect
         goes: displaced(x),
         changes: x.stands,
         next,
-        made: !known(x),
+        made: !x.known,
     }
 }
 
 pub fn id_read_failed_answer(x: Seen) -> u8
     ensures { λ r. ⌜ r ≡ judge (idReadFailed x .grounds) ⌝ }
 {
-    first(!is_port(x), 1, first(!readable(x.here), 5, 0))
+    first(!x.isport, 1, first(!readable(x.here), 5, 0))
 }
 
 pub fn id_read_failed_effect(x: Seen) -> Effect
     ensures { λ r. ⌜ r ≡ idReadFailed x .effect ⌝ }
 {
     let q = x.here;
-    let c = x.tied;
-    let next = either_carrier(is_tied(x), c.placed_at(x.port).with_id(2), Carrier::none());
-    on_both(x, x.port, q.tag_not_read(), x.holds, next)
+    let c = x.held;
+    let next = either_carrier(x.tied, c.placed_at(x.port).with_id(2), Carrier::none());
+    on_both(x.count, x.port, q.tag_not_read(), x.holds, next)
 }

@@ -3,11 +3,7 @@ ghost use mathlib.Core.Path.{_≡_};
 ghost use Rattle.rules.specs.Row.{judge};
 ghost use Rattle.rules.specs.Service.{otherAccess, changeAccess, goesOut, comesIn, changeServiceStatus, reserveAtPort, cancelReservationAtPort};
 use crate::ask::first;
-use crate::ask::is_choice;
-use crate::ask::is_port;
-use crate::ask::is_tied;
 use crate::ask::on_port;
-use crate::ask::reserved_or_tied;
 use rules::row::Effect;
 use rules::row::Seen;
 
@@ -26,14 +22,14 @@ pub fn change_access_answer(x: Seen) -> u8
         4,
         first(other_access(x) & (q.movement != 0), 5, 0),
     );
-    first(!is_port(x), 1, first(!is_choice(x), 1, a))
+    first(!x.isport, 1, first(!(x.value <= 1), 1, a))
 }
 
 pub fn change_access_effect(x: Seen) -> Effect
     ensures { λ r. ⌜ r ≡ changeAccess x .effect ⌝ }
 {
     let q = x.here;
-    on_port(x, x.port, q.with_access(x.value))
+    on_port(x.count, x.port, q.with_access(x.value))
 }
 
 fn goes_out(x: Seen) -> bool
@@ -53,11 +49,11 @@ pub fn change_service_status_answer(x: Seen) -> u8
 {
     let out = goes_out(x);
     let a = first(
-        out & reserved_or_tied(x),
+        out & ((x.here.reserved == 1) | x.tied),
         4,
         first(out & (x.here.transfer != 1), 5, 0),
     );
-    first(!is_port(x), 1, first(!is_choice(x), 1, a))
+    first(!x.isport, 1, first(!(x.value <= 1), 1, a))
 }
 
 pub fn change_service_status_effect(x: Seen) -> Effect
@@ -65,7 +61,7 @@ pub fn change_service_status_effect(x: Seen) -> Effect
 {
     let q = x.here;
     on_port(
-        x,
+        x.count,
         x.port,
         q.with_transfer(first(goes_out(x), 0, first(comes_in(x), 1, q.transfer))),
     )
@@ -75,9 +71,9 @@ pub fn reserve_at_port_answer(x: Seen) -> u8
     ensures { λ r. ⌜ r ≡ judge (reserveAtPort x .grounds) ⌝ }
 {
     first(
-        !is_port(x),
+        !x.isport,
         1,
-        first(reserved_or_tied(x), 4, first(x.here.transfer != 1, 5, 0)),
+        first((x.here.reserved == 1) | x.tied, 4, first(x.here.transfer != 1, 5, 0)),
     )
 }
 
@@ -85,16 +81,16 @@ pub fn reserve_at_port_effect(x: Seen) -> Effect
     ensures { λ r. ⌜ r ≡ reserveAtPort x .effect ⌝ }
 {
     let q = x.here;
-    on_port(x, x.port, q.with_reserved(1))
+    on_port(x.count, x.port, q.with_reserved(1))
 }
 
 pub fn cancel_reservation_at_port_answer(x: Seen) -> u8
     ensures { λ r. ⌜ r ≡ judge (cancelReservationAtPort x .grounds) ⌝ }
 {
     first(
-        !is_port(x),
+        !x.isport,
         1,
-        first(is_tied(x), 4, first(x.here.reserved != 1, 5, 0)),
+        first(x.tied, 4, first(x.here.reserved != 1, 5, 0)),
     )
 }
 
@@ -102,5 +98,5 @@ pub fn cancel_reservation_at_port_effect(x: Seen) -> Effect
     ensures { λ r. ⌜ r ≡ cancelReservationAtPort x .effect ⌝ }
 {
     let q = x.here;
-    on_port(x, x.port, q.with_reserved(0))
+    on_port(x.count, x.port, q.with_reserved(0))
 }

@@ -6,8 +6,6 @@ use crate::ask::either_carrier;
 use crate::ask::either_port;
 use crate::ask::first;
 use crate::ask::found_or_new;
-use crate::ask::is_port_or_none;
-use crate::ask::known;
 use crate::ask::other_port;
 use crate::ask::placed;
 use crate::ask::unknown_pod;
@@ -33,14 +31,14 @@ pub fn proceed_with_carrier_answer(x: Seen) -> u8
 {
     let c = x.found;
     let a = first(!(!placed(x) | can_proceed(x, c)), 5, 0);
-    let b = first(!(!known(x) | placed(x) | takes_unknown_pod(x)), 5, a);
+    let b = first(!(!x.known | placed(x) | takes_unknown_pod(x)), 5, a);
     first(
         !x.named,
         1,
         first(
-            !is_port_or_none(x),
+            !(x.isport | x.noport),
             1,
-            first(!(known(x) | unknown_pod(x)), 2, b),
+            first(!(x.known | unknown_pod(x)), 2, b),
         ),
     )
 }
@@ -64,7 +62,7 @@ pub fn proceed_with_carrier_effect(x: Seen) -> Effect
         goes: x.count,
         changes: x.stands,
         next,
-        made: !known(x),
+        made: !x.known,
     }
 }
 
@@ -80,14 +78,14 @@ pub fn cancel_carrier_answer(x: Seen) -> u8
     let c = x.found;
     let q = x.home;
     let a = first(!(!placed(x) | can_cancel(x, c, q)), 5, 0);
-    let b = first(!(!known(x) | placed(x) | takes_unknown_pod(x)), 5, a);
+    let b = first(!(!x.known | placed(x) | takes_unknown_pod(x)), 5, a);
     first(
         !x.named,
         1,
         first(
-            !is_port_or_none(x),
+            !(x.isport | x.noport),
             1,
-            first(!(known(x) | unknown_pod(x)), 2, b),
+            first(!(x.known | unknown_pod(x)), 2, b),
         ),
     )
 }
@@ -135,6 +133,6 @@ pub fn cancel_carrier_effect(x: Seen) -> Effect
         goes: x.count,
         changes: x.stands,
         next,
-        made: !known(x),
+        made: !x.known,
     }
 }

@@ -8,7 +8,7 @@ use Rattle.records.specs.declared.carrier.Carrier.{Carrier}
 use Rattle.records.specs.Ports.{hasPod, idle, tagUnread, tagRead, tagNotRead}
 use Rattle.records.specs.Carriers.{noCarrier, expected, untied, placedAt, withId}
 use Rattle.rules.specs.declared.row.Seen.{Seen}
-use Rattle.rules.specs.Row.{Row, when, unless, onBoth, isPort, known, isTied, otherPort, placed, foundOrNew}
+use Rattle.rules.specs.Row.{Row, when, unless, onBoth, otherPort, placed, foundOrNew}
 
 -- pod present, idle, tag unread
 abbrev pub readable : Port → Bool
@@ -16,11 +16,11 @@ readable q = hasPod q && idle q && tagUnread q
 
 -- the name's record is placed anywhere, or tied to another port
 unfoldable pub elsewhere : Seen → Bool
-elsewhere x = placed x || (known x && not (untied (x .found)) && otherPort x (x .found))
+elsewhere x = placed x || (x .known && not (untied (x .found)) && otherPort x (x .found))
 
 -- the port is tied to this name, or has no tie and the name is expected
 unfoldable pub matching : Seen → Bool
-matching x = known x && (eqb (x .holds) (x .stands) || not (isTied x))
+matching x = x .known && (eqb (x .holds) (x .stands) || not (x .tied))
 
 -- where the record of another name stands that the port is tied to; the number of records where there is none
 unfoldable pub displaced : Seen → ℕ
@@ -32,21 +32,21 @@ displaced x = cond (eqb (x .holds) (x .stands)) (x .count) (x .holds)
 -- the tie with ID 2. In every case placed at and tied to the port.
 abbrev pub idRead : Seen → Row
 idRead x = record {
-  grounds = unless (isPort x) 1 ∷ unless (x .named) 1 ∷ when (elsewhere x) 3 ∷ unless (readable (x .here)) 5 ∷ [];
+  grounds = unless (x .isport) 1 ∷ unless (x .named) 1 ∷ when (elsewhere x) 3 ∷ unless (readable (x .here)) 5 ∷ [];
   effect = record {
     port = x .port;
     becomes = tagRead (x .name) (x .here);
     goes = displaced x;
     changes = x .stands;
     next = withId (cond (matching x) 3 2) (placedAt (x .port) (foundOrNew x));
-    made = not (known x);
+    made = not (x .known);
   };
 }
 
 -- 17. IdReadFailed(port). 5 as row 16. Tag failed; a tied carrier is placed at the port with ID 2.
 abbrev pub idReadFailed : Seen → Row
 idReadFailed x = record {
-  grounds = unless (isPort x) 1 ∷ unless (readable (x .here)) 5 ∷ [];
-  effect = onBoth x (x .port) (tagNotRead (x .here)) (x .holds)
-      (cond (isTied x) (withId 2 (placedAt (x .port) (x .tied))) noCarrier);
+  grounds = unless (x .isport) 1 ∷ unless (readable (x .here)) 5 ∷ [];
+  effect = onBoth (x .count) (x .port) (tagNotRead (x .here)) (x .holds)
+      (cond (x .tied) (withId 2 (placedAt (x .port) (x .held))) noCarrier);
 }

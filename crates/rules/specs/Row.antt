@@ -3,8 +3,8 @@ use Prim.Native.Nat.{ℕ}
 use mathlib.Core.Bool.{Bool, true, false, not, cond, _&&_, _||_}
 use mathlib.Core.List.{List, [], _∷_}
 use lib.ListN.{set}
-use lib.Dec.{eqb, leb, ltb}
-use Rattle.lists.specs.Lists.{without, withNew, between}
+use lib.Dec.{eqb, leb}
+use Rattle.lists.specs.Lists.{without, withNew}
 use Rattle.records.specs.declared.port.Port.{Port}
 use Rattle.records.specs.declared.carrier.Carrier.{Carrier}
 use Rattle.records.specs.Ports.{noPort, reserved, idle, hasPod, tagFailed}
@@ -49,45 +49,29 @@ enact e s = record {
   places = s .places;
 }
 
--- only a port changes
-abbrev pub onPort : Seen → ℕ → Port → Effect
-onPort x p q = record { port = p; becomes = q; goes = x .count; changes = x .count; next = noCarrier; made = false }
+-- only a port changes; n is the number of records
+abbrev pub onPort : ℕ → ℕ → Port → Effect
+onPort n p q = record { port = p; becomes = q; goes = n; changes = n; next = noCarrier; made = false }
 
 -- a port changes, and the record at a position goes
-abbrev pub onPortAndGone : Seen → ℕ → Port → ℕ → Effect
-onPortAndGone x p q k = record { port = p; becomes = q; goes = k; changes = x .count; next = noCarrier; made = false }
+abbrev pub onPortAndGone : ℕ → ℕ → Port → ℕ → Effect
+onPortAndGone n p q k = record { port = p; becomes = q; goes = k; changes = n; next = noCarrier; made = false }
 
 -- only the record at a position changes
-abbrev pub onRecord : Seen → ℕ → Carrier → Effect
-onRecord x k c = record { port = 0; becomes = noPort; goes = x .count; changes = k; next = c; made = false }
+abbrev pub onRecord : ℕ → ℕ → Carrier → Effect
+onRecord n k c = record { port = 0; becomes = noPort; goes = n; changes = k; next = c; made = false }
 
 -- a port and the record at a position change
-abbrev pub onBoth : Seen → ℕ → Port → ℕ → Carrier → Effect
-onBoth x p q k c = record { port = p; becomes = q; goes = x .count; changes = k; next = c; made = false }
+abbrev pub onBoth : ℕ → ℕ → Port → ℕ → Carrier → Effect
+onBoth n p q k c = record { port = p; becomes = q; goes = n; changes = k; next = c; made = false }
 
 -- ── What rows ask ───────────────────────────────────────────────────────────────────────────
--- the port given is one of the tool's
-abbrev pub isPort : Seen → Bool
-isPort x = between 1 (x .port) (x .ports)
-
--- the same, or none is given
+-- the port given is one of the tool's, or none is given
 abbrev pub isPortOrNone : Seen → Bool
-isPortOrNone x = leb (x .port) (x .ports)
-
--- the name has a record
-abbrev pub known : Seen → Bool
-known x = ltb (x .stands) (x .count)
-
--- the port given is tied
-abbrev pub isTied : Seen → Bool
-isTied x = ltb (x .holds) (x .count)
+isPortOrNone x = x .isport || x .noport
 
 abbrev pub reservedOrTied : Seen → Bool
-reservedOrTied x = reserved (x .here) || isTied x
-
--- 16 carriers are expected already
-abbrev pub full : Seen → Bool
-full x = leb 16 (x .expected)
+reservedOrTied x = reserved (x .here) || x .tied
 
 -- the second number is 0 or 1
 abbrev pub isChoice : Seen → Bool
@@ -95,16 +79,16 @@ isChoice x = leb (x .value) 1
 
 -- a port is given, and it isn't the carrier's
 abbrev pub otherPort : Seen → Carrier → Bool
-otherPort x c = not (eqb (x .port) 0) && not (eqb (x .port) (c .port))
+otherPort x c = not (x .noport) && not (eqb (x .port) (c .port))
 
 -- the name's record is placed
 unfoldable pub placed : Seen → Bool
-placed x = known x && not (expected (x .found))
+placed x = x .known && not (expected (x .found))
 
 -- unknown pod at the port: port given, pod present, idle, tag failed, no tie
 unfoldable pub unknownPod : Seen → Bool
-unknownPod x = isPort x && hasPod (x .here) && idle (x .here) && tagFailed (x .here) && not (isTied x)
+unknownPod x = x .isport && hasPod (x .here) && idle (x .here) && tagFailed (x .here) && not (x .tied)
 
 -- the name's record, or a new one
 unfoldable pub foundOrNew : Seen → Carrier
-foundOrNew x = cond (known x) (x .found) (newCarrier (x .name) 0)
+foundOrNew x = cond (x .known) (x .found) (newCarrier (x .name) 0)

@@ -16,7 +16,7 @@ use Rattle.rules.specs.Opening.{openRow, slotMap, accessStart, accessEnd
 
 -- the input number isn't 1 to 26
 abbrev pub noRow : Seen → Row
-noRow x = record { grounds = when true 1 ∷ []; effect = onPort x 0 noPort }
+noRow x = record { grounds = when true 1 ∷ []; effect = onPort (x .count) 0 noPort }
 
 unfoldable pub rowOf : ℕ → Seen → Row
 rowOf n x =

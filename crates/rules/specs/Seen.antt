@@ -4,7 +4,7 @@ use mathlib.Core.Bool.{Bool, cond, _&&_, _||_}
 use mathlib.Core.List.{List}
 use lib.ListN.{length}
 use lib.Dec.{eqb, leb, ltb}
-use Rattle.lists.specs.Lists.{any, howMany, whereIs}
+use Rattle.lists.specs.Lists.{any, howMany, whereIs, between}
 use Rattle.records.specs.declared.name.Name.{Name}
 use Rattle.records.specs.declared.carrier.Carrier.{Carrier}
 use Rattle.records.specs.Names.{isName, inBytes, sameName}
@@ -52,10 +52,11 @@ someOpen s = any isOpen (s .carriers)
 
 unfoldable pub see : State → Input → Seen
 see s i = record {
-  ports = length (s .ports);
   places = s .places;
   count = length (s .carriers);
   port = narrow (i .port);
+  isport = between 1 (narrow (i .port)) (length (s .ports));
+  noport = eqb (narrow (i .port)) 0;
   value = narrow (i .value);
   name = inBytes (i .name);
   named = isName (i .name);
@@ -64,11 +65,13 @@ see s i = record {
   mapped = isMap (i .codes);
   here = portOf s (narrow (i .port));
   stands = nameStands s (inBytes (i .name));
+  known = ltb (nameStands s (inBytes (i .name))) (length (s .carriers));
   found = recordOf s (nameStands s (inBytes (i .name)));
   home = portOf s (recordOf s (nameStands s (inBytes (i .name))) .port);
   holds = tieStands s (narrow (i .port));
-  tied = recordOf s (tieStands s (narrow (i .port)));
-  expected = howManyExpected s;
+  tied = ltb (tieStands s (narrow (i .port))) (length (s .carriers));
+  held = recordOf s (tieStands s (narrow (i .port)));
+  full = leb 16 (howManyExpected s);
   taken = spotTaken s (narrow (i .value));
   busy = someOpen s;
 }

@@ -8,7 +8,7 @@ use Rattle.records.specs.declared.carrier.Carrier.{Carrier}
 use Rattle.records.specs.Ports.{noPort, readyToUnload, idle, tiedTo, toUnload}
 use Rattle.records.specs.Carriers.{noCarrier, atPort, untied, idWaits, idOk, slotWaits, inAccess, placedAt, withId, proceeded, judgedNo, cancelledBy}
 use Rattle.rules.specs.declared.row.Seen.{Seen}
-use Rattle.rules.specs.Row.{Row, when, unless, isPortOrNone, known, otherPort, placed, unknownPod, foundOrNew}
+use Rattle.rules.specs.Row.{Row, when, unless, isPortOrNone, otherPort, placed, unknownPod, foundOrNew}
 
 -- Expected: it is untied and an unknown pod is at the port given.
 unfoldable pub takesUnknownPod : Seen → Bool
@@ -22,8 +22,8 @@ canProceed x c = not (otherPort x c) && (idWaits c || (idOk c && slotWaits c))
 
 abbrev pub proceedWithCarrier : Seen → Row
 proceedWithCarrier x = record {
-  grounds = unless (x .named) 1 ∷ unless (isPortOrNone x) 1 ∷ unless (known x || unknownPod x) 2
-      ∷ unless (not (known x) || placed x || takesUnknownPod x) 5
+  grounds = unless (x .named) 1 ∷ unless (isPortOrNone x) 1 ∷ unless (x .known || unknownPod x) 2
+      ∷ unless (not (x .known) || placed x || takesUnknownPod x) 5
       ∷ unless (not (placed x) || canProceed x (x .found)) 5 ∷ [];
   effect = record {
     port = cond (placed x) 0 (x .port);
@@ -31,7 +31,7 @@ proceedWithCarrier x = record {
     goes = x .count;
     changes = x .stands;
     next = cond (placed x) (proceeded (x .found)) (withId 3 (placedAt (x .port) (foundOrNew x)));
-    made = not (known x);
+    made = not (x .known);
   };
 }
 
@@ -55,8 +55,8 @@ failed x = cond (placed x) (judgedNo (x .found)) (withId 4 (placedAt (x .port) (
 
 abbrev pub cancelCarrier : Seen → Row
 cancelCarrier x = record {
-  grounds = unless (x .named) 1 ∷ unless (isPortOrNone x) 1 ∷ unless (known x || unknownPod x) 2
-      ∷ unless (not (known x) || placed x || takesUnknownPod x) 5
+  grounds = unless (x .named) 1 ∷ unless (isPortOrNone x) 1 ∷ unless (x .known || unknownPod x) 2
+      ∷ unless (not (x .known) || placed x || takesUnknownPod x) 5
       ∷ unless (not (placed x) || canCancel x (x .found) (x .home)) 5 ∷ [];
   effect = record {
     port = cancelAt x;
@@ -64,6 +64,6 @@ cancelCarrier x = record {
     goes = x .count;
     changes = x .stands;
     next = cancelledBy (readyToUnload (cancelPort x)) (failed x);
-    made = not (known x);
+    made = not (x .known);
   };
 }

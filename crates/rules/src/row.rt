@@ -4,28 +4,33 @@ use records::name::Name;
 use records::port::Port;
 
 pub struct Seen {
-    // how many ports, buffer places and records the tool has
-    pub ports: u8,
+    // how many buffer places and records the tool has
     pub places: u8,
     pub count: usize,
-    // the input: its port and second number (255 for all that is larger), its name, whether it is one, or none is given, its codes
+    // the input's port and second number, 255 standing for all that is larger: whether it is a port of the tool, or none is given
     pub port: u8,
+    pub isport: bool,
+    pub noport: bool,
     pub value: u8,
+    // its name: whether it is a name, or none is given; its codes: whether they are a slot map
     pub name: Name,
     pub named: bool,
     pub blank: bool,
     pub map: [u8; 25],
     pub mapped: bool,
-    // the port given; where the record of the name stands, it, and the port it is tied to
+    // the port given
     pub here: Port,
+    // where the name's record stands, whether it has one, the record, and the port it is tied to
     pub stands: usize,
+    pub known: bool,
     pub found: Carrier,
     pub home: Port,
-    // where the record tied to the port given stands, and it
+    // where the record stands that the port given is tied to, whether there is one, and the record
     pub holds: usize,
-    pub tied: Carrier,
-    // how many are expected; whether the buffer place given is taken; whether some carrier is open
-    pub expected: usize,
+    pub tied: bool,
+    pub held: Carrier,
+    // 16 are expected already; the buffer place given is taken; some carrier is open
+    pub full: bool,
     pub taken: bool,
     pub busy: bool,
 }

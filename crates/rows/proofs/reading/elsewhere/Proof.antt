@@ -4,4 +4,6 @@ use Rattle.rows.proofs.reading.elsewhere.Tie as tie
 
 pub elsewhere-spec : {M : Type 1} → statement M
 unfolding elsewhere
-elsewhere-spec = tie.close (tie.spec (λ c κs. tt) (λ c κs. tt) (λ c κs. tt) (λ c. cc))
+elsewhere-spec =
+    tie.close
+    (tie.spec (λ c κs. tt) (λ c κs. tt) (λ c. rw (c .other-port .ensures, c .before .before .before .placed .ensures)))
