@@ -1,2 +1,6 @@
-pub mod TwelveRows
 pub mod Lowest
+pub mod Names
+pub mod Past
+pub mod Holding
+pub mod SoundFacts
+pub mod TwelveRows

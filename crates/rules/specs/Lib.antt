@@ -1,5 +1,6 @@
 pub mod State
 pub mod Sound
+pub mod Held
 pub mod Seen
 pub mod Row
 pub mod Booking

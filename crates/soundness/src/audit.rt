@@ -3,7 +3,7 @@ ghost use mathlib.Core.Path.{_≡_};
 ghost use Prim.Native.Nat.{_≤_, _+_};
 ghost use lib.ListN.{take};
 ghost use Rattle.rules.specs.State.{stateOf};
-ghost use Rattle.rules.proofs.Held.{Held};
+ghost use Rattle.rules.specs.Held.{Held};
 ghost use Rattle.soundness.specs.Audit.{audited, audits};
 use records::carrier::Carrier;
 use rules::tool::Tool;

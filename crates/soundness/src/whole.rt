@@ -5,7 +5,7 @@ ghost use lib.ListN.{take, drop};
 ghost use Rattle.lists.specs.Lists.{every};
 ghost use Rattle.rules.specs.State.{stateOf};
 ghost use Rattle.rules.specs.Sound.{zeroPort, zeroCarrier, sound, soundTool};
-ghost use Rattle.rules.proofs.Held.{Held};
+ghost use Rattle.rules.specs.Held.{Held};
 ghost use Rattle.soundness.specs.Audit.{portOk};
 use rules::tool::Tool;
 use crate::parts::{wide, port_ok, tie_held, zero_port, zero_carrier, port_in};
