@@ -8,7 +8,7 @@ use mathlib.Core.Bool.{Bool, true, false, _&&_}
 use mathlib.Core.List.{List, [], _∷_, _++_}
 use lib.ListN.{length, getD, set, take, drop, replicate}
 use lib.Seq.{take-suc, take-all, length-take-le}
-use Rattle.lists.specs.Lists.{every, without, fill}
+use Rattle.lists.specs.Lists.{every, without, fill, shifted}
 use Rattle.lists.proofs.Bools.{and-l, and-r}
 
 module _ {A : Type 0} where
@@ -71,18 +71,26 @@ module _ {A : Type 0} where
   fill-whole (suc n) z [] = refl
   fill-whole (suc n) z (x ∷ l) = ap (λ r. x ∷ r) (fill-whole n z l)
 
+  -- a value stored again and again
+  replicate-more : (i : ℕ) (x : A) → replicate i x ++ (x ∷ []) ≡ replicate (suc i) x
+  replicate-more zero x = refl
+  replicate-more (suc i) x = ap (λ r. x ∷ r) (replicate-more i x)
+
+  pub length-repeat : (i : ℕ) (x : A) → length (replicate i x) ≡ i
+  length-repeat zero x = refl
+  length-repeat (suc i) x = ap suc (length-repeat i x)
+
+  pub fill-repeat : (n : ℕ) (z x : A) (i : ℕ) → set (fill n z (replicate i x)) i x ≡ fill n z (replicate (i + 1) x)
+  fill-repeat n z x i =
+      rw (add-one, ← replicate-more i x)
+      (ap (λ k. set (fill n z (replicate i x)) k x) (sym (length-repeat i x)) ∙ push-fill n z (replicate i x) x)
+
   snoc-fill : (n : ℕ) (z : A) (l : List A) → length l ≤ n → fill n z l ++ (z ∷ []) ≡ fill (suc n) z l
   unfolding fill
   snoc-fill zero z [] h = refl
   snoc-fill zero z (y ∷ l) h = absurd (omega arith)
   snoc-fill (suc n) z [] h = ap (λ r. z ∷ r) (snoc-fill n z [] (omega arith))
   snoc-fill (suc n) z (y ∷ l) h = ap (λ r. y ∷ r) (snoc-fill n z l (le-of-suc-le-suc h))
-
-  -- the element at k goes, those after it move up, and the last is z
-  unfoldable pub shifted : A → List A → ℕ → List A
-  shifted z [] k = []
-  shifted z (x ∷ l) zero = l ++ z ∷ []
-  shifted z (x ∷ l) (suc k) = x ∷ shifted z l k
 
   pub shift-fill : (n : ℕ) (z : A) (l : List A) (k : ℕ) → k < length l → length l ≤ n → shifted z (fill n z l) k ≡ fill n z (without k l)
   unfolding fill shifted without

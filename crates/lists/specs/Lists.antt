@@ -51,6 +51,12 @@ module _ {A : Type 0} where
   fill (suc n) z [] = z ∷ fill n z []
   fill (suc n) z (x ∷ l) = x ∷ fill n z l
 
+  -- the element at k goes, those after it move up, and the last is z
+  unfoldable pub shifted : A → List A → ℕ → List A
+  shifted z [] k = []
+  shifted z (x ∷ l) zero = l ++ z ∷ []
+  shifted z (x ∷ l) (suc k) = x ∷ shifted z l k
+
 -- the same numbers in the same order
 unfoldable pub sameList : List ℕ → List ℕ → Bool
 sameList [] [] = true

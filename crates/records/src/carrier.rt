@@ -1,7 +1,7 @@
 // A carrier record answers each input with the record that follows it.
 ghost use mathlib.Core.Path.{_≡_};
-ghost use mathlib.Core.Bool.{cond};
 ghost use Rattle.records.specs.Carriers.{noCarrier, newCarrier, placedAt, withId, proceeded, judgedNo, cancelledBy, takenOut, takenBack, movedIn, withOpened, withMap, withAccessing};
+use crate::choose::first;
 use crate::name::Name;
 
 // place: 0 expected, 1 at a port, 2 in the buffer; spot: the buffer place, or 0; port: the tie, or 0;
@@ -19,13 +19,6 @@ pub struct Carrier {
     pub id: u8,
     pub slot: u8,
     pub accessing: u8,
-}
-
-// The first number if the test holds, else the second.
-pub fn first(b: bool, x: u8, y: u8) -> u8
-    ensures { λ r. ⌜ r ≡ cond b x y ⌝ }
-{
-    if b { x } else { y }
 }
 
 impl Carrier {

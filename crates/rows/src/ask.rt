@@ -2,22 +2,10 @@
 ghost use mathlib.Core.Path.{_≡_};
 ghost use mathlib.Core.Bool.{cond};
 ghost use Rattle.rules.specs.Row.{otherPort, placed, unknownPod, foundOrNew, onPort, onPortAndGone, onRecord, onBoth};
-use records::port::Port;
 use records::carrier::Carrier;
-use rules::row::{Seen, Effect};
-
-// The first number if the test holds, else the second: grounds stand in the order of their numbers.
-pub fn first(b: bool, n: u8, other: u8) -> u8
-    ensures { λ r. ⌜ r ≡ cond b n other ⌝ }
-{
-    if b { n } else { other }
-}
-
-pub fn either(b: bool, x: usize, y: usize) -> usize
-    ensures { λ r. ⌜ r ≡ cond b x y ⌝ }
-{
-    if b { x } else { y }
-}
+use records::port::Port;
+use rules::row::Effect;
+use rules::row::Seen;
 
 pub fn either_port(b: bool, x: Port, y: Port) -> Port
     ensures { λ r. ⌜ r ≡ cond b x y ⌝ }
@@ -62,7 +50,14 @@ pub fn on_port(n: usize, port: u8, becomes: Port) -> Effect
     ensures { λ r. ⌜ r ≡ onPort n port becomes ⌝ }
 {
     let next = Carrier::none();
-    Effect { port, becomes, goes: n, changes: n, next, made: false }
+    Effect {
+        port,
+        becomes,
+        goes: n,
+        changes: n,
+        next,
+        made: false,
+    }
 }
 
 // A port changes, and the record at a position goes.
@@ -70,7 +65,14 @@ pub fn on_port_and_gone(n: usize, port: u8, becomes: Port, goes: usize) -> Effec
     ensures { λ r. ⌜ r ≡ onPortAndGone n port becomes goes ⌝ }
 {
     let next = Carrier::none();
-    Effect { port, becomes, goes, changes: n, next, made: false }
+    Effect {
+        port,
+        becomes,
+        goes,
+        changes: n,
+        next,
+        made: false,
+    }
 }
 
 // Only the record at a position changes.
@@ -78,12 +80,26 @@ pub fn on_record(n: usize, changes: usize, next: Carrier) -> Effect
     ensures { λ r. ⌜ r ≡ onRecord n changes next ⌝ }
 {
     let becomes = Port::none();
-    Effect { port: 0, becomes, goes: n, changes, next, made: false }
+    Effect {
+        port: 0,
+        becomes,
+        goes: n,
+        changes,
+        next,
+        made: false,
+    }
 }
 
 // A port and the record at a position change.
 pub fn on_both(n: usize, port: u8, becomes: Port, changes: usize, next: Carrier) -> Effect
     ensures { λ r. ⌜ r ≡ onBoth n port becomes changes next ⌝ }
 {
-    Effect { port, becomes, goes: n, changes, next, made: false }
+    Effect {
+        port,
+        becomes,
+        goes: n,
+        changes,
+        next,
+        made: false,
+    }
 }

@@ -2,13 +2,13 @@
 ghost use mathlib.Core.Path.{_≡_};
 ghost use Rattle.rules.specs.Row.{judge};
 ghost use Rattle.rules.specs.Booking.{bind, meant, meantPort, meantStands, onePair, cancelBind, carrierNotification, cancelCarrierNotification};
-use crate::ask::either;
 use crate::ask::either_carrier;
 use crate::ask::either_port;
-use crate::ask::first;
 use crate::ask::on_port_and_gone;
 use crate::ask::other_port;
 use records::carrier::Carrier;
+use records::choose::either;
+use records::choose::first;
 use records::port::Port;
 use rules::row::Effect;
 use rules::row::Seen;
@@ -72,11 +72,7 @@ pub fn cancel_bind_answer(x: Seen) -> u8
     first(
         !(x.isport | x.noport),
         1,
-        first(
-            !(x.blank | x.named),
-            1,
-            first(x.noport & x.blank, 1, a),
-        ),
+        first(!(x.blank | x.named), 1, first(x.noport & x.blank, 1, a)),
     )
 }
 

@@ -2,8 +2,8 @@
 ghost use mathlib.Core.Path.{_≡_};
 ghost use Rattle.rules.specs.Row.{judge};
 ghost use Rattle.rules.specs.Buffer.{canComeOut, carrierOut, canGoBack, carrierIn, canMoveIn, verifiedHere, moveIn};
-use crate::ask::first;
 use crate::ask::on_both;
+use records::choose::first;
 use rules::row::Effect;
 use rules::row::Seen;
 
@@ -20,7 +20,11 @@ pub fn carrier_out_answer(x: Seen) -> u8
     let a = first(
         !x.known,
         2,
-        first((x.here.reserved == 1) | x.tied, 4, first(!can_come_out(x), 5, 0)),
+        first(
+            (x.here.reserved == 1) | x.tied,
+            4,
+            first(!can_come_out(x), 5, 0),
+        ),
     );
     first(!x.named, 1, first(!x.isport, 1, a))
 }

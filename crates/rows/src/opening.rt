@@ -3,9 +3,9 @@ ghost use mathlib.Core.Path.{_≡_};
 ghost use Rattle.rules.specs.Row.{judge};
 ghost use Rattle.rules.specs.Opening.{canOpen, notVerified, openerInUse, openRow, slotMap, accessStart, accessEnd, leavesPort, closeRow};
 use crate::ask::either_port;
-use crate::ask::first;
 use crate::ask::on_both;
 use crate::ask::on_record;
+use records::choose::first;
 use records::port::Port;
 use rules::row::Effect;
 use rules::row::Seen;
@@ -56,11 +56,7 @@ pub fn slot_map_answer(x: Seen) -> u8
     ensures { λ r. ⌜ r ≡ judge (slotMap x .grounds) ⌝ }
 {
     let c = x.found;
-    let a = first(
-        !x.known,
-        2,
-        first(!((c.opened == 1) & (c.slot == 1)), 5, 0),
-    );
+    let a = first(!x.known, 2, first(!((c.opened == 1) & (c.slot == 1)), 5, 0));
     first(!x.named, 1, first(!x.mapped, 1, a))
 }
 
@@ -102,7 +98,11 @@ pub fn access_end_effect(x: Seen) -> Effect
     ensures { λ r. ⌜ r ≡ accessEnd x .effect ⌝ }
 {
     let c = x.found;
-    on_record(x.count, x.stands, c.with_accessing(first(x.value == 0, 3, 4)))
+    on_record(
+        x.count,
+        x.stands,
+        c.with_accessing(first(x.value == 0, 3, 4)),
+    )
 }
 
 pub fn close_answer(x: Seen) -> u8

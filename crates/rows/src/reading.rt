@@ -2,14 +2,14 @@
 ghost use mathlib.Core.Path.{_≡_};
 ghost use Rattle.rules.specs.Row.{judge};
 ghost use Rattle.rules.specs.Reading.{readable, elsewhere, matching, displaced, idRead, idReadFailed};
-use crate::ask::either;
 use crate::ask::either_carrier;
-use crate::ask::first;
 use crate::ask::found_or_new;
 use crate::ask::on_both;
 use crate::ask::other_port;
 use crate::ask::placed;
 use records::carrier::Carrier;
+use records::choose::either;
+use records::choose::first;
 use records::port::Port;
 use rules::row::Effect;
 use rules::row::Seen;

@@ -2,8 +2,8 @@
 ghost use mathlib.Core.Path.{_≡_};
 ghost use Rattle.rules.specs.Row.{judge};
 ghost use Rattle.rules.specs.Service.{otherAccess, changeAccess, goesOut, comesIn, changeServiceStatus, reserveAtPort, cancelReservationAtPort};
-use crate::ask::first;
 use crate::ask::on_port;
+use records::choose::first;
 use rules::row::Effect;
 use rules::row::Seen;
 
@@ -73,7 +73,11 @@ pub fn reserve_at_port_answer(x: Seen) -> u8
     first(
         !x.isport,
         1,
-        first((x.here.reserved == 1) | x.tied, 4, first(x.here.transfer != 1, 5, 0)),
+        first(
+            (x.here.reserved == 1) | x.tied,
+            4,
+            first(x.here.transfer != 1, 5, 0),
+        ),
     )
 }
 

@@ -2,9 +2,9 @@
 ghost use mathlib.Core.Path.{_≡_};
 ghost use Rattle.rules.specs.Row.{judge};
 ghost use Rattle.rules.specs.Transfer.{loadStart, loadDone, loadFail, unloadStart, unloadDone, unloadFail};
-use crate::ask::first;
 use crate::ask::on_port;
 use crate::ask::on_port_and_gone;
+use records::choose::first;
 use rules::row::Effect;
 use rules::row::Seen;
 

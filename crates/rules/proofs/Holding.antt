@@ -19,17 +19,10 @@ use Rattle.records.specs.Names.{noName}
 use Rattle.records.specs.Ports.{noPort}
 use Rattle.records.specs.Carriers.{noCarrier}
 use Rattle.rules.specs.declared.tool.Tool.{Tool}
-use Rattle.rules.specs.State.{State, stateOf, spotOf, portOf, recordOf}
+use Rattle.rules.specs.State.{State, stateOf, spotOf, portOf, recordOf, portAt, recordAt}
 use Rattle.rules.specs.Sound.{zeroPort, zeroCarrier, unusedZero, sound, soundTool}
 use Rattle.rules.specs.Held.{Held}
 use Rattle.rules.proofs.Names.{name-is}
-
--- the tool's own tables, read as the lists are
-unfoldable pub portAt : Tool → ℕ → Port
-portAt t p = getD (t .ports) (spotOf p) noPort
-
-unfoldable pub recordAt : Tool → ℕ → Carrier
-recordAt t k = getD (t .carriers) k noCarrier
 
 module _ (t : Tool) (h : Held t) where
   pub used-held : length (take (t .used) (t .ports)) ≡ t .used
@@ -96,7 +89,7 @@ module _ (t : Tool) (ports : length (t .ports) ≡ 4) (carriers : length (t .car
     ports = tail-is zeroPort noPort zero-port (t .used) (t .ports) c ∙ ap (λ n. fill n noPort (take (t .used) (t .ports))) ports;
     carriers =
         tail-is zeroCarrier noCarrier zero-carrier (t .count) (t .carriers) d
-        ∙ ap (λ n. fill n noCarrier (take (t .count) (t .carriers))) carriers
+        ∙ ap (λ n. fill n noCarrier (take (t .count) (t .carriers))) carriers;
   }
 
   pub sound-held : soundTool t ≡ true → Held t

@@ -4,3 +4,5 @@ pub mod Past
 pub mod Holding
 pub mod SoundFacts
 pub mod TwelveRows
+pub mod Accepts
+pub mod Apt

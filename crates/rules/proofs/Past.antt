@@ -18,5 +18,5 @@ pastCarrier = record {
   map = [];
   id = 0;
   slot = 0;
-  accessing = 0
+  accessing = 0;
 }

@@ -3,19 +3,19 @@ use Prim.Native.Nat.{ℕ, _≤_, _<_}
 use native.Mathlib.Omega.{arith}
 use mathlib.Core.Path.{_≡_, refl, sym, _∙_}
 use mathlib.Core.Logic.{_≢_}
-use mathlib.Core.Bool.{Bool, true, false, _&&_}
+use mathlib.Core.Bool.{Bool, true, false, _&&_, not}
 use mathlib.Core.List.{List}
 use lib.ListN.{length, getD, List·getD-eq-default}
 use lib.Dec.{leb, ltb}
-use borrow.Author.Tests.{leb-true, ltb-true, ltb-false}
+use borrow.Author.Tests.{eqb-false, leb-true, ltb-true, ltb-false}
 use Rattle.lists.specs.Lists.{every, everyTwo}
-use Rattle.lists.proofs.Bools.{and-l, and-r, not-true}
+use Rattle.lists.proofs.Bools.{and-l, and-r, not-true, or-other}
 use Rattle.lists.proofs.Tests.{every-at, two-at}
 use Rattle.records.specs.declared.carrier.Carrier.{Carrier}
 use Rattle.records.specs.Names.{sameName}
-use Rattle.records.specs.Carriers.{noCarrier}
+use Rattle.records.specs.Carriers.{noCarrier, atPort}
 use Rattle.rules.specs.State.{State, recordOf}
-use Rattle.rules.specs.Sound.{carrierInRange, inRange, otherName, sound}
+use Rattle.rules.specs.Sound.{carrierInRange, inRange, otherName, placeAgrees, sound}
 use Rattle.rules.proofs.Names.{name-sym}
 
 -- no two records have one name
@@ -57,3 +57,12 @@ module _ (s : State) (h : sound s ≡ true) where
           leb-true _ _
           (let o = every-at _ (s .carriers) noCarrier each-in-range k (ltb-true k (length (s .carriers)) e) in search (and-l, and-r) depth 13)
       go false e = rw (List·getD-eq-default (s .carriers) noCarrier (ltb-false k (length (s .carriers)) e)) (omega arith)
+
+  -- a record placed at a port is tied to one
+  pub placed-tied : (k : ℕ) → k < length (s .carriers) → atPort (getD (s .carriers) k noCarrier) ≡ true → 1 ≤ getD (s .carriers) k noCarrier .port
+  unfolding sound placeAgrees
+  placed-tied k b a =
+      let o = every-at placeAgrees (s .carriers) noCarrier (search (and-l, and-r) depth 9) k b in
+      let n = not-true _ (or-other (not (atPort (getD (s .carriers) k noCarrier))) _ (and-l _ _ o) (rw a)) in
+      let z = eqb-false (getD (s .carriers) k noCarrier .port) 0 n in
+      omega arith

@@ -21,6 +21,9 @@ pub record Input : Type 0 where
   pub name : List ℕ
   pub codes : List ℕ
 
+abbrev pub inputOf : ℕ → ℕ → ℕ → List ℕ → List ℕ → Input
+inputOf number port value name codes = record { number = number; port = port; value = value; name = name; codes = codes }
+
 -- No port, place or value is as large as 255, so that 255 stands for all that is larger.
 unfoldable pub narrow : ℕ → ℕ
 narrow n = cond (ltb n 255) n 255

@@ -34,6 +34,13 @@ recordOf s k = getD (s .carriers) k noCarrier
 abbrev pub stateOf : Tool → State
 stateOf t = record { ports = take (t .used) (t .ports); carriers = take (t .count) (t .carriers); places = t .places }
 
+-- the same read off the tables
+unfoldable pub portAt : Tool → ℕ → Port
+portAt t p = getD (t .ports) (spotOf p) noPort
+
+unfoldable pub recordAt : Tool → ℕ → Carrier
+recordAt t k = getD (t .carriers) k noCarrier
+
 unfoldable pub inTool : State → Tool
 inTool s = record {
   used = length (take 4 (s .ports));

@@ -49,7 +49,7 @@ module _ (s : State) where
   pub checked-sound : checked s (audits s (s .carriers)) ≡ sound s
   unfolding audits sound inRange tiesAgree fewExpected
   checked-sound =
-      rw (← ports-split, ← pairs-split, ← carriers-split) 
+      rw (← ports-split, ← pairs-split, ← carriers-split)
       (reordered (between 1 (length (s .ports)) 4) (leb (s .places) 16) (every portInRange (s .ports)) (every portAgrees (s .ports))
       (portTieHeld s 1) (portTieHeld s 2) (portTieHeld s 3) (portTieHeld s 4)
       (every (carrierInRange (length (s .ports)) (s .places)) (s .carriers)) (every (λ c. tieKept (portOf s (c .port)) c) (s .carriers))

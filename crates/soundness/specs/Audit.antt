@@ -37,7 +37,7 @@ audited a c ok alone = record {
   one = namesPort 1 c || a .one;
   two = namesPort 2 c || a .two;
   three = namesPort 3 c || a .three;
-  four = namesPort 4 c || a .four
+  four = namesPort 4 c || a .four;
 }
 
 -- all of a list
@@ -49,7 +49,7 @@ audits s l = record {
   one = any (namesPort 1) l;
   two = any (namesPort 2) l;
   three = any (namesPort 3) l;
-  four = any (namesPort 4) l
+  four = any (namesPort 4) l;
 }
 
 -- the tests in the order in which the code makes them

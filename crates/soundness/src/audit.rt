@@ -5,9 +5,13 @@ ghost use lib.ListN.{take};
 ghost use Rattle.rules.specs.State.{stateOf};
 ghost use Rattle.rules.specs.Held.{Held};
 ghost use Rattle.soundness.specs.Audit.{audited, audits};
+use crate::parts::apart;
+use crate::parts::carrier_ok;
+use crate::parts::port_in;
 use records::carrier::Carrier;
+use records::choose::one_if;
+use records::choose::wide;
 use rules::tool::Tool;
-use crate::parts::{wide, one_if, carrier_ok, apart, port_in};
 
 // What the records passed so far show: each is as it should be, every two are apart, how many are expected, and which ports
 // some carrier is tied to.
@@ -45,7 +49,15 @@ pub fn audits(t: Tool) -> Audit
 {
     let n = wide(t.count);
     let ports = t.ports;
-    let mut a = Audit { ok: true, apart: true, expected: 0, one: false, two: false, three: false, four: false };
+    let mut a = Audit {
+        ok: true,
+        apart: true,
+        expected: 0,
+        one: false,
+        two: false,
+        three: false,
+        four: false,
+    };
     let mut k = n;
     while 0 < k {
         k -= 1;

@@ -1,4 +1,4 @@
 // Whether a tool holds a sound state.
-pub mod parts;
 pub mod audit;
+pub mod parts;
 pub mod whole;

@@ -9,34 +9,28 @@ ghost use Rattle.records.specs.Maps.{isCode};
 ghost use Rattle.rules.specs.State.{spotOf};
 ghost use Rattle.rules.specs.Sound.{portInRange, portAgrees, spotInRange, statusInRange, carrierInRange, tieKept, tieHeld, placeAgrees, openAgrees, otherName, otherSpot, zeroPort, zeroCarrier};
 ghost use Rattle.soundness.specs.Audit.{portOk, carrierOk, apart};
+use records::carrier::Carrier;
 use records::name::Name;
 use records::port::Port;
-use records::carrier::Carrier;
-
-pub fn wide(x: u8) -> usize
-    ensures { λ r. ⌜ r ≡ x ⌝ }
-{
-    x as usize
-}
-
-pub fn one_if(b: bool) -> usize
-    ensures { λ r. ⌜ r ≡ cond b 1 0 ⌝ }
-    ensures { λ r. ⌜ r ≤ 1 ⌝ }
-{
-    if b { 1 } else { 0 }
-}
 
 fn port_in_range(q: Port) -> bool
     ensures { λ r. ⌜ r ≡ portInRange q ⌝ }
 {
     let tie = q.tie.same(Name::none()) | q.tie.holds_name();
-    (q.transfer <= 3) & (q.access <= 1) & (q.reserved <= 1) & tie & (q.movement <= 2) & (q.pod <= 1) & (q.tag <= 2)
+    (q.transfer <= 3)
+        & (q.access <= 1)
+        & (q.reserved <= 1)
+        & tie
+        & (q.movement <= 2)
+        & (q.pod <= 1)
+        & (q.tag <= 2)
 }
 
 fn port_agrees(q: Port) -> bool
     ensures { λ r. ⌜ r ≡ portAgrees q ⌝ }
 {
-    ((q.movement == 0) | (q.transfer == 3)) & (!((q.transfer <= 1) | (q.movement == 1)) | (q.pod != 1))
+    ((q.movement == 0) | (q.transfer == 3))
+        & (!((q.transfer <= 1) | (q.movement == 1)) | (q.pod != 1))
 }
 
 pub fn port_ok(q: Port) -> bool
@@ -72,9 +66,17 @@ fn status_in_range(v: u8) -> bool
 fn carrier_in_range(c: Carrier, used: u8, places: u8) -> bool
     ensures { λ r. ⌜ r ≡ carrierInRange used places c ⌝ }
 {
-    c.name.holds_name() & (c.place <= 2) & spot_in_range(c, places) & (c.port <= used)
-        & (c.opened <= 1) & (c.cancelled <= 1) & (c.cameout <= 1) & codes_in_range(c)
-        & status_in_range(c.id) & status_in_range(c.slot) & status_in_range(c.accessing)
+    c.name.holds_name()
+        & (c.place <= 2)
+        & spot_in_range(c, places)
+        & (c.port <= used)
+        & (c.opened <= 1)
+        & (c.cancelled <= 1)
+        & (c.cameout <= 1)
+        & codes_in_range(c)
+        & status_in_range(c.id)
+        & status_in_range(c.slot)
+        & status_in_range(c.accessing)
 }
 
 fn tie_kept(q: Port, c: Carrier) -> bool
@@ -119,8 +121,13 @@ pub fn tie_held(q: Port, held: bool) -> bool
 pub fn zero_port(q: Port) -> bool
     ensures { λ r. ⌜ r ≡ zeroPort q ⌝ }
 {
-    (q.transfer == 0) & (q.access == 0) & (q.reserved == 0) & q.tie.same(Name::none())
-        & (q.movement == 0) & (q.pod == 0) & (q.tag == 0)
+    (q.transfer == 0)
+        & (q.access == 0)
+        & (q.reserved == 0)
+        & q.tie.same(Name::none())
+        & (q.movement == 0)
+        & (q.pod == 0)
+        & (q.tag == 0)
 }
 
 fn zero_map(c: Carrier) -> bool
@@ -139,9 +146,17 @@ fn zero_map(c: Carrier) -> bool
 pub fn zero_carrier(c: Carrier) -> bool
     ensures { λ r. ⌜ r ≡ zeroCarrier c ⌝ }
 {
-    c.name.same(Name::none()) & (c.place == 0) & (c.spot == 0) & (c.port == 0)
-        & (c.opened == 0) & (c.cancelled == 0) & (c.cameout == 0) & zero_map(c)
-        & (c.id == 0) & (c.slot == 0) & (c.accessing == 0)
+    c.name.same(Name::none())
+        & (c.place == 0)
+        & (c.spot == 0)
+        & (c.port == 0)
+        & (c.opened == 0)
+        & (c.cancelled == 0)
+        & (c.cameout == 0)
+        & zero_map(c)
+        & (c.id == 0)
+        & (c.slot == 0)
+        & (c.accessing == 0)
 }
 
 // Where port p stands; 0 stands nowhere.

@@ -7,9 +7,14 @@ ghost use Rattle.rules.specs.State.{stateOf};
 ghost use Rattle.rules.specs.Sound.{zeroPort, zeroCarrier, sound, soundTool};
 ghost use Rattle.rules.specs.Held.{Held};
 ghost use Rattle.soundness.specs.Audit.{portOk};
-use rules::tool::Tool;
-use crate::parts::{wide, port_ok, tie_held, zero_port, zero_carrier, port_in};
 use crate::audit::audits;
+use crate::parts::port_in;
+use crate::parts::port_ok;
+use crate::parts::tie_held;
+use crate::parts::zero_carrier;
+use crate::parts::zero_port;
+use records::choose::wide;
+use rules::tool::Tool;
 
 // Nothing after the ports.
 fn ports_end(t: Tool) -> bool

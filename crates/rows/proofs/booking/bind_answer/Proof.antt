@@ -6,9 +6,10 @@ bind-answer-spec =
     tie.close
     (tie.spec (λ c κs. tt) (λ c κs. tt) (λ c κs. tt) (λ c κs. tt) (λ c κs. tt) (λ c κs. tt)
     (λ c. rw (
-    c .first6 .ensures,
-    c .before .first5 .ensures,
-    c .before .before .before .before .first4 .ensures,
-    c .before .before .before .before .before .first3 .ensures,
-    c .before .before .before .before .before .before .before .before .first2 .ensures,
-    c .before .before .before .before .before .before .before .before .before .first .ensures)))
+      c .first6 .ensures,
+      c .before .first5 .ensures,
+      c .before .before .before .before .first4 .ensures,
+      c .before .before .before .before .before .first3 .ensures,
+      c .before .before .before .before .before .before .before .before .first2 .ensures,
+      c .before .before .before .before .before .before .before .before .before .first .ensures,
+    )))

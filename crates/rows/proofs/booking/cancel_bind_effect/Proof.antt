@@ -6,8 +6,9 @@ cancel-bind-effect-spec =
     tie.close
     (tie.spec (λ c κs. tt) (λ c κs. tt) (λ c κs. tt) (λ c κs. tt) (λ c κs. tt)
     (λ c. rw (
-    c .on-port-and-gone .ensures,
-    c .before .meant-stands .ensures,
-    c .before .before .unbound .ensures,
-    c .before .before .before .meant-port .ensures,
-    c .before .before .before .before .meant .ensures)))
+      c .on-port-and-gone .ensures,
+      c .before .meant-stands .ensures,
+      c .before .before .unbound .ensures,
+      c .before .before .before .meant-port .ensures,
+      c .before .before .before .before .meant .ensures,
+    )))

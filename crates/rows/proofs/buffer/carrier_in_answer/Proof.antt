@@ -6,7 +6,8 @@ carrier-in-answer-spec =
     tie.close
     (tie.spec (λ c κs. tt) (λ c κs. tt) (λ c κs. tt) (λ c κs. tt)
     (λ c. rw (
-    c .first3 .ensures,
-    c .before .first2 .ensures,
-    c .before .before .first .ensures,
-    c .before .before .before .can-go-back .ensures)))
+      c .first3 .ensures,
+      c .before .first2 .ensures,
+      c .before .before .first .ensures,
+      c .before .before .before .can-go-back .ensures,
+    )))

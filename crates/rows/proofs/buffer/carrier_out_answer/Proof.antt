@@ -6,9 +6,10 @@ carrier-out-answer-spec =
     tie.close
     (tie.spec (λ c κs. tt) (λ c κs. tt) (λ c κs. tt) (λ c κs. tt) (λ c κs. tt) (λ c κs. tt)
     (λ c. rw (
-    c .first5 .ensures,
-    c .before .first4 .ensures,
-    c .before .before .before .before .first3 .ensures,
-    c .before .before .before .before .before .first2 .ensures,
-    c .before .before .before .before .before .before .first .ensures,
-    c .before .before .before .before .before .before .before .can-come-out .ensures)))
+      c .first5 .ensures,
+      c .before .first4 .ensures,
+      c .before .before .before .before .first3 .ensures,
+      c .before .before .before .before .before .first2 .ensures,
+      c .before .before .before .before .before .before .first .ensures,
+      c .before .before .before .before .before .before .before .can-come-out .ensures,
+    )))

@@ -6,7 +6,8 @@ access-start-answer-spec =
     tie.close
     (tie.spec (λ c κs. tt) (λ c κs. tt) (λ c κs. tt) (λ c κs. tt)
     (λ c. rw (
-    c .first4 .ensures,
-    c .before .first3 .ensures,
-    c .before .before .before .before .first2 .ensures,
-    c .before .before .before .before .before .first .ensures)))
+      c .first4 .ensures,
+      c .before .first3 .ensures,
+      c .before .before .before .before .first2 .ensures,
+      c .before .before .before .before .before .first .ensures,
+    )))

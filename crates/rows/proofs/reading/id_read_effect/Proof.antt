@@ -6,10 +6,11 @@ id-read-effect-spec =
     tie.close
     (tie.spec (λ c κs. tt) (λ c κs. tt) (λ c κs. tt) (λ c κs. tt) (λ c κs. tt) (λ c κs. tt) (λ c κs. tt)
     (λ c. rw (
-    c .before .displaced .ensures,
-    c .before .before .with-id .ensures,
-    c .before .before .before .first .ensures,
-    c .before .before .before .before .matching .ensures,
-    c .before .before .before .before .before .placed-at .ensures,
-    c .before .before .before .before .before .before .found-or-new .ensures,
-    c .before .before .before .before .before .before .before .tag-read .ensures)))
+      c .before .displaced .ensures,
+      c .before .before .with-id .ensures,
+      c .before .before .before .first .ensures,
+      c .before .before .before .before .matching .ensures,
+      c .before .before .before .before .before .placed-at .ensures,
+      c .before .before .before .before .before .before .found-or-new .ensures,
+      c .before .before .before .before .before .before .before .tag-read .ensures,
+    )))

@@ -6,9 +6,10 @@ id-read-failed-effect-spec =
     tie.close
     (tie.spec (λ c κs. tt) (λ c κs. tt) (λ c κs. tt) (λ c κs. tt) (λ c κs. tt) (λ c κs. tt)
     (λ c. rw (
-    c .on-both .ensures,
-    c .before .tag-not-read .ensures,
-    c .before .before .either-carrier .ensures,
-    c .before .before .before .none .ensures,
-    c .before .before .before .before .with-id .ensures,
-    c .before .before .before .before .before .placed-at .ensures)))
+      c .on-both .ensures,
+      c .before .tag-not-read .ensures,
+      c .before .before .either-carrier .ensures,
+      c .before .before .before .none .ensures,
+      c .before .before .before .before .with-id .ensures,
+      c .before .before .before .before .before .placed-at .ensures,
+    )))

@@ -6,9 +6,10 @@ change-service-status-effect-spec =
     tie.close
     (tie.spec (λ c κs. tt) (λ c κs. tt) (λ c κs. tt) (λ c κs. tt) (λ c κs. tt) (λ c κs. tt)
     (λ c. rw (
-    c .on-port .ensures,
-    c .before .with-transfer .ensures,
-    c .before .before .first2 .ensures,
-    c .before .before .before .first .ensures,
-    c .before .before .before .before .comes-in .ensures,
-    c .before .before .before .before .before .goes-out .ensures)))
+      c .on-port .ensures,
+      c .before .with-transfer .ensures,
+      c .before .before .first2 .ensures,
+      c .before .before .before .first .ensures,
+      c .before .before .before .before .comes-in .ensures,
+      c .before .before .before .before .before .goes-out .ensures,
+    )))

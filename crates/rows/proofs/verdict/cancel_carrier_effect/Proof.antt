@@ -6,10 +6,11 @@ cancel-carrier-effect-spec =
     tie.close
     (tie.spec (λ c κs. tt) (λ c κs. tt) (λ c κs. tt) (λ c κs. tt) (λ c κs. tt) (λ c κs. tt) (λ c κs. tt)
     (λ c. rw (
-    c .before .cancelled-by .ensures,
-    c .before .before .before .failed .ensures,
-    c .before .before .before .before .either-port .ensures,
-    c .before .before .before .before .before .to-unload .ensures,
-    c .before .before .before .before .before .before .none .ensures,
-    c .before .before .before .before .before .before .before .cancel-port .ensures,
-    c .before .before .before .before .before .before .before .before .cancel-at .ensures)))
+      c .before .cancelled-by .ensures,
+      c .before .before .before .failed .ensures,
+      c .before .before .before .before .either-port .ensures,
+      c .before .before .before .before .before .to-unload .ensures,
+      c .before .before .before .before .before .before .none .ensures,
+      c .before .before .before .before .before .before .before .cancel-port .ensures,
+      c .before .before .before .before .before .before .before .before .cancel-at .ensures,
+    )))

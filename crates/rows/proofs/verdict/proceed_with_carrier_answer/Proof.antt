@@ -7,13 +7,14 @@ proceed-with-carrier-answer-spec =
     (tie.spec (λ c κs. tt) (λ c κs. tt) (λ c κs. tt) (λ c κs. tt) (λ c κs. tt) (λ c κs. tt) (λ c κs. tt) (λ c κs. tt) (λ c κs. tt)
     (λ c κs. tt)
     (λ c. rw (
-    c .first5 .ensures,
-    c .before .first4 .ensures,
-    c .before .before .first3 .ensures,
-    c .before .before .before .before .unknown-pod .ensures,
-    c .before .before .before .before .before .before .before .first2 .ensures,
-    c .before .before .before .before .before .before .before .before .takes-unknown-pod .ensures,
-    c .before .before .before .before .before .before .before .before .before .placed2 .ensures,
-    c .before .before .before .before .before .before .before .before .before .before .before .first .ensures,
-    c .before .before .before .before .before .before .before .before .before .before .before .before .can-proceed .ensures,
-    c .before .before .before .before .before .before .before .before .before .before .before .before .before .placed .ensures)))
+      c .first5 .ensures,
+      c .before .first4 .ensures,
+      c .before .before .first3 .ensures,
+      c .before .before .before .before .unknown-pod .ensures,
+      c .before .before .before .before .before .before .before .first2 .ensures,
+      c .before .before .before .before .before .before .before .before .takes-unknown-pod .ensures,
+      c .before .before .before .before .before .before .before .before .before .placed2 .ensures,
+      c .before .before .before .before .before .before .before .before .before .before .before .first .ensures,
+      c .before .before .before .before .before .before .before .before .before .before .before .before .can-proceed .ensures,
+      c .before .before .before .before .before .before .before .before .before .before .before .before .before .placed .ensures,
+    )))

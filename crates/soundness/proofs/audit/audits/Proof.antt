@@ -8,9 +8,9 @@ use lib.ListN.{length, getD, drop, take, length-map}
 use Rattle.lists.specs.Lists.{every, everyTwo, howMany, any}
 use Rattle.lists.proofs.Bools.{and-r}
 use Rattle.lists.proofs.Loops.{back-in, ended-in, stopped}
-use Rattle.rules.specs.State.{stateOf, portOf}
+use Rattle.rules.specs.State.{stateOf, portOf, portAt}
 use Rattle.rules.specs.Held.{Held}
-use Rattle.rules.proofs.Holding.{portAt, used-held, port-held}
+use Rattle.rules.proofs.Holding.{used-held, port-held}
 use Rattle.rules.proofs.Past.{pastCarrier}
 use Rattle.soundness.specs.Audit.{apart, audits}
 use Rattle.soundness.proofs.Checked.{audits-more}
@@ -77,9 +77,15 @@ loop-again c =
     let e = back-in (t .carriers) (t .count) k pastCarrier (omega arith) (omega arith) (omega arith) in
     let z : k - 1 + 1 ≡ k = omega arith in
     let f : b .loop2 .alone ≡ every (apart (getD (t .carriers) (k - 1) pastCarrier)) (drop k (take (t .count) (t .carriers))) = rw z at (stopped (apart (getD (t .carriers) (k - 1) pastCarrier)) (take (t .count) (t .carriers)) (b .loop2 .alone) (k - 1 + 1) (b .loop2 .j) (omega arith) (b .loop2 .inv .5) (c .before .before .before .loop2-test .left)) in
-    let one = c .audited .ensures .1 in
-    (omega arith, h, o .loop .inv .2, omega arith, refl, omega arith,
-    c .audited .ensures .0 ∙ rw (c .before .carrier-ok .ensures, c .before .before .port-in .ensures, f, o .loop .inv .6, e, audits-more, used-held t h, ← port-held t h, portAt))
+    let one = c .audited .ensures .1 in (
+      omega arith,
+      h,
+      o .loop .inv .2,
+      omega arith,
+      refl,
+      omega arith,
+      c .audited .ensures .0 ∙ rw (c .before .carrier-ok .ensures, c .before .before .port-in .ensures, f, o .loop .inv .6, e, audits-more, used-held t h, ← port-held t h, portAt),
+    )
 
 returns : tie.Need-returns Inv-loop2 μ-loop2 Inv-loop μ-loop
 returns c =

@@ -8,9 +8,10 @@ carrier-in-range-spec =
     tie.close
     (tie.spec (λ c κs. tt) (λ c κs. tt) (λ c κs. tt) (λ c κs. tt) (λ c κs. tt) (λ c κs. tt)
     (λ c. rw (
-    c .status-in-range3 .ensures,
-    c .before .status-in-range2 .ensures,
-    c .before .before .status-in-range .ensures,
-    c .before .before .before .codes-in-range .ensures,
-    c .before .before .before .before .before .before .before .before .spot-in-range .ensures,
-    c .before .before .before .before .before .before .before .before .before .before .holds-name .ensures)))
+      c .status-in-range3 .ensures,
+      c .before .status-in-range2 .ensures,
+      c .before .before .status-in-range .ensures,
+      c .before .before .before .codes-in-range .ensures,
+      c .before .before .before .before .before .before .before .before .spot-in-range .ensures,
+      c .before .before .before .before .before .before .before .before .before .before .holds-name .ensures,
+    )))

@@ -8,7 +8,8 @@ carrier-ok-spec =
     tie.close
     (tie.spec (λ c κs. tt) (λ c κs. tt) (λ c κs. tt) (λ c κs. tt)
     (λ c. rw (
-    c .open-agrees .ensures,
-    c .before .place-agrees .ensures,
-    c .before .before .tie-kept .ensures,
-    c .before .before .before .carrier-in-range .ensures)))
+      c .open-agrees .ensures,
+      c .before .place-agrees .ensures,
+      c .before .before .tie-kept .ensures,
+      c .before .before .before .carrier-in-range .ensures,
+    )))

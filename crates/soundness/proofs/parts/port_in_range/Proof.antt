@@ -8,6 +8,7 @@ port-in-range-spec =
     tie.close
     (tie.spec (λ c κs. tt) (λ c κs. tt) (λ c κs. tt)
     (λ c. rw (
-    c .before .before .before .before .before .before .holds-name .ensures,
-    c .before .before .before .before .before .before .before .same .ensures,
-    c .before .before .before .before .before .before .before .before .none .ensures)))
+      c .before .before .before .before .before .before .holds-name .ensures,
+      c .before .before .before .before .before .before .before .same .ensures,
+      c .before .before .before .before .before .before .before .before .none .ensures,
+    )))

@@ -8,6 +8,7 @@ zero-carrier-spec =
     tie.close
     (tie.spec (λ c κs. tt) (λ c κs. tt) (λ c κs. tt)
     (λ c. rw (
-    c .before .before .before .zero-map .ensures,
-    c .before .before .before .before .before .before .before .before .before .before .same .ensures,
-    c .before .before .before .before .before .before .before .before .before .before .before .none .ensures)))
+      c .before .before .before .zero-map .ensures,
+      c .before .before .before .before .before .before .before .before .before .before .same .ensures,
+      c .before .before .before .before .before .before .before .before .before .before .before .none .ensures,
+    )))

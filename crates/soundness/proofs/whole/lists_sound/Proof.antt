@@ -1,9 +1,9 @@
 -- The code's tests, by what its callees ensure; their order is `checked-sound`'s matter.
 use borrow.Author.Needs.{needs}
 use mathlib.Core.Path.{_≡_, sym, _∙_}
-use Rattle.rules.specs.State.{stateOf}
+use Rattle.rules.specs.State.{stateOf, portAt}
 use Rattle.rules.specs.Held.{Held}
-use Rattle.rules.proofs.Holding.{portAt, used-held, port-held}
+use Rattle.rules.proofs.Holding.{used-held, port-held}
 use Rattle.soundness.proofs.Checked.{checked-sound}
 use Rattle.soundness.proofs.whole.lists_sound.Statement.{statement}
 use Rattle.soundness.proofs.whole.lists_sound.Tie as tie
@@ -23,10 +23,24 @@ returns c =
     let a = t2 .before .before .before .before .before in
     let t = a .before .args .t in
     let h : Held t = search needs in
-    rw (p .ports-ok .ensures,
-    t4 .tie-held4 .ensures, t4 .before .port-in4 .ensures, t4 .before .before .tie-held3 .ensures, t4 .before .before .before .port-in3 .ensures,
-    t2 .tie-held2 .ensures, t2 .before .port-in2 .ensures, t2 .before .before .tie-held .ensures, t2 .before .before .before .port-in .ensures,
-    a .audits .ensures, ← checked-sound (stateOf t), used-held t h, ← port-held t h 1, ← port-held t h 2, ← port-held t h 3, ← port-held t h 4)
+    rw (
+      p .ports-ok .ensures,
+      t4 .tie-held4 .ensures,
+      t4 .before .port-in4 .ensures,
+      t4 .before .before .tie-held3 .ensures,
+      t4 .before .before .before .port-in3 .ensures,
+      t2 .tie-held2 .ensures,
+      t2 .before .port-in2 .ensures,
+      t2 .before .before .tie-held .ensures,
+      t2 .before .before .before .port-in .ensures,
+      a .audits .ensures,
+      ← checked-sound (stateOf t),
+      used-held t h,
+      ← port-held t h 1,
+      ← port-held t h 2,
+      ← port-held t h 3,
+      ← port-held t h 4,
+    )
 
 pub lists-sound-spec : {M : Type 1} → statement M
 lists-sound-spec =

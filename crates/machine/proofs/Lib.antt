@@ -1,0 +1,6 @@
+pub mod Bridge
+pub mod Tables
+pub mod Notes
+pub mod Each
+pub mod Differ
+pub mod Answered

@@ -1,0 +1,12 @@
+use borrow.Author.Needs.{needs}
+use borrow.Author.Tests.{lt-ltb, le-ltb}
+use Rattle.machine.specs.Told.{noted}
+use Rattle.machine.proofs.report.noted.Statement.{statement}
+use Rattle.machine.proofs.report.noted.Tie as tie
+
+pub noted-spec : {M : Type 1} → statement M
+unfolding noted
+noted-spec =
+    tie.close
+    (tie.spec (λ c κs. tt) (λ c. search needs) (λ c. search needs) (λ c. search needs)
+    (λ c. rw (← c .before .wide .ensures, lt-ltb _ _ (c .if1 .taken))) (λ c. rw (← c .before .wide .ensures, le-ltb _ _ (c .if1 .left))))

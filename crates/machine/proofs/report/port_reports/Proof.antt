@@ -1,0 +1,27 @@
+use Rattle.machine.specs.Told.{portTouched}
+use Rattle.machine.proofs.Notes.{noteAll-append}
+use Rattle.machine.proofs.report.port_reports.Statement.{statement}
+use Rattle.machine.proofs.report.port_reports.Tie as tie
+
+returns : tie.Need-returns
+unfolding portTouched
+returns c =
+    let three = c .before .before .before .before in
+    let two = three .before .before .before in
+    let one = two .before .before .before in
+    simp noteAll-append
+    (rw (
+      c .note-if4 .ensures,
+      c .before .tie-number2 .ensures,
+      c .before .before .tie-number .ensures,
+      c .before .before .before .same .ensures,
+      three .note-if3 .ensures,
+      two .note-if2 .ensures,
+      one .note-if .ensures,
+      one .before .before .before .none .ensures,
+    ))
+
+pub port-reports-spec : {M : Type 1} → statement M
+port-reports-spec =
+    tie.close
+    (tie.spec (λ c κs. tt) (λ c κs. tt) (λ c κs. tt) (λ c κs. tt) (λ c κs. tt) (λ c κs. tt) (λ c κs. tt) (λ c κs. tt) returns)

@@ -1,0 +1,10 @@
+use Rattle.machine.specs.Told.{recordTouched}
+use Rattle.machine.proofs.Notes.{noteAll-append}
+use Rattle.machine.proofs.report.record_reports.Statement.{statement}
+use Rattle.machine.proofs.report.record_reports.Tie as tie
+
+pub record-reports-spec : {M : Type 1} → statement M
+unfolding recordTouched
+record-reports-spec =
+    tie.close
+    (tie.spec (λ c κs. tt) (λ c κs. tt) (λ c. simp noteAll-append (rw (c .note-if2 .ensures, c .before .note-if .ensures))))

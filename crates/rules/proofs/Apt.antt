@@ -1,0 +1,408 @@
+-- What holds of each row's effect where the row accepts: a record keeps its name, a new one's name is new, and so on.
+use Prim.Native.Nat.{ℕ, _-_, _≤_, _<_}
+use native.Mathlib.Omega.{arith}
+use mathlib.Core.Path.{_≡_, refl, ap, sym, _∙_}
+use mathlib.Core.Logic.{_≢_}
+use mathlib.Core.Bool.{Bool, true, false, not, cond, _&&_, _||_}
+use mathlib.Core.List.{List, [], _∷_}
+use lib.ListN.{length, getD, List·getD-eq-default}
+use lib.Dec.{eqb, leb, ltb}
+use borrow.Author.Tests.{eqb-true, eqb-false, leb-true, ltb-true, ltb-false, lt-ltb, le-ltb, ne-eqb}
+use Rattle.lists.proofs.Bools.{clash, and-l, and-r, not-true, not-false, or-other}
+use Rattle.lists.proofs.Tests.{nowhere}
+use Rattle.records.specs.declared.name.Name.{Name}
+use Rattle.records.specs.declared.port.Port.{Port}
+use Rattle.records.specs.declared.carrier.Carrier.{Carrier}
+use Rattle.records.specs.Names.{sameName}
+use Rattle.records.specs.Ports.{noPort, tiedTo, toUnload}
+use Rattle.records.specs.Carriers.{noCarrier, newCarrier, atPort, idOk, untied, placedAt, withId, proceeded, judgedNo, cancelledBy}
+use Rattle.rules.specs.declared.row.Seen.{Seen}
+use Rattle.rules.specs.declared.row.Effect.{Effect}
+use Rattle.rules.specs.State.{State, spotOf, portOf, recordOf}
+use Rattle.rules.specs.Sound.{sound}
+use Rattle.rules.specs.Seen.{Input, narrow, isNamed, nameStands, tieStands, see}
+use Rattle.rules.specs.Row.{Row, judge, onPort, onPortAndGone, onRecord, onBoth, placed, unknownPod, foundOrNew}
+use Rattle.rules.specs.Booking.{bind, meant, meantPort, meantStands, onePair, cancelBind, carrierNotification, cancelCarrierNotification}
+use Rattle.rules.specs.Verdict.{takesUnknownPod, canProceed, proceedWithCarrier, canCancel, cancelAt, cancelPort, failed, cancelCarrier}
+use Rattle.rules.specs.Buffer.{canComeOut, carrierOut, canGoBack, carrierIn, canMoveIn, verifiedHere, moveIn}
+use Rattle.rules.specs.Service.{changeAccess, changeServiceStatus, reserveAtPort, cancelReservationAtPort, goesOut, comesIn}
+use Rattle.rules.specs.Transfer.{loadStart, loadDone, loadFail, unloadStart, unloadDone, unloadFail}
+use Rattle.rules.specs.Reading.{readable, elsewhere, matching, displaced, idRead, idReadFailed}
+use Rattle.rules.specs.Opening.{openRow, slotMap, accessStart, accessEnd, leavesPort, closeRow}
+use Rattle.rules.specs.Rows.{rowOf}
+use Rattle.rules.proofs.Accepts.{clear}
+use Rattle.rules.proofs.SoundFacts.{port-fits, placed-tied}
+
+pub record Apt (s : State) (e : Effect) : Type 0 where
+  -- no port changes only into itself
+  pub still : length (s .ports) ≤ spotOf (e .port) → e .becomes ≡ portOf s (e .port)
+  -- what goes isn't what changes
+  pub apart : e .changes < length (s .carriers) → e .changes ≢ e .goes
+  -- a record keeps its name
+  pub named : e .changes < length (s .carriers) → e .next .name ≡ getD (s .carriers) (e .changes) noCarrier .name
+  -- a new record changes no other, and its name is new
+  pub lone : e .made ≡ true → length (s .carriers) ≤ e .changes
+  pub fresh : e .made ≡ true → (j : ℕ) → j < length (s .carriers) → sameName (getD (s .carriers) j noCarrier .name) (e .next .name) ≡ false
+  -- where none is made and none changes, there is no record
+  pub none : e .made ≡ false → length (s .carriers) ≤ e .changes → e .next ≡ noCarrier
+
+-- a port in range stands in the list
+in-list : (p n : ℕ) → 1 ≤ p → p ≤ n → spotOf p < n
+in-list p n a b = let z : spotOf p ≡ p - 1 = rw (ne-eqb p 0 (λ e. omega arith)) in omega arith
+
+or-right : (a b c : Bool) → ((a || b) || c) ≡ true → (a || (b || c)) ≡ true
+or-right true b c e = e
+or-right false b c e = e
+
+module _ (s : State) where
+  -- what an effect does to its port
+  abbrev Still : ℕ → Port → Type 0
+  Still p q = length (s .ports) ≤ spotOf p → q ≡ portOf s p
+
+  still-in : (p : ℕ) (q : Port) → 1 ≤ p → p ≤ length (s .ports) → Still p q
+  still-in p q a b h = let z = in-list p (length (s .ports)) a b in absurd (omega arith)
+
+  still-none : Still 0 noPort
+  unfolding portOf
+  still-none h = sym (List·getD-eq-default (s .ports) noPort h)
+
+  -- only a port changes, and a record may go
+  port-apt : (p : ℕ) (q : Port) (k : ℕ) → Still p q → Apt s (onPortAndGone (length (s .carriers)) p q k)
+  port-apt p q k h = record {
+    still = h;
+    apart = λ b. absurd (omega arith);
+    named = λ b. absurd (omega arith);
+    lone = λ e. clash e refl;
+    fresh = λ e. clash e refl;
+    none = λ _ _. refl;
+  }
+
+  -- a port and a record change
+  both-apt : (p : ℕ) (q : Port) (k : ℕ) (c : Carrier) → Still p q → k < length (s .carriers)
+      → c .name ≡ getD (s .carriers) k noCarrier .name → Apt s (onBoth (length (s .carriers)) p q k c)
+  both-apt p q k c h b n = record {
+    still = h;
+    apart = λ _. omega arith;
+    named = λ _. n;
+    lone = λ e. clash e refl;
+    fresh = λ e. clash e refl;
+    none = λ _ l. absurd (omega arith);
+  }
+
+-- where a row accepts
+record Fine (s : State) (r : Row) : Type 0 where
+  pub fine : judge (r .grounds) ≡ 0 → Apt s (r .effect)
+
+one-of : {s : State} {r q : Row} (b : Bool) → Fine s r → Fine s q → Fine s (cond b r q)
+one-of true f g = f
+one-of false f g = g
+
+module _ (s : State) (i : Input) (h : sound s ≡ true) where
+  abbrev x : Seen
+  x = see s i
+
+  -- the port given is the tool's
+  given-port : x .isport ≡ true → (q : Port) → Still s (x .port) q
+  unfolding see
+  given-port e q = still-in s (x .port) q (leb-true 1 (x .port) (and-l _ _ e)) (leb-true (x .port) (length (s .ports)) (and-r (leb 1 (x .port)) _ e))
+
+  -- a record's own port, where it has one
+  own-port : (k : ℕ) → (recordOf s k .port ≡ 0 → ⊥) → (q : Port) → Still s (recordOf s k .port) q
+  own-port k n q = still-in s (recordOf s k .port) q (omega arith) (port-fits s h k)
+
+  -- no record has the input's name
+  no-namesake : x .known ≡ false → (j : ℕ) → j < length (s .carriers) → sameName (getD (s .carriers) j noCarrier .name) (x .name) ≡ false
+  unfolding see nameStands
+  no-namesake e = nowhere (isNamed (x .name)) (s .carriers) noCarrier (ltb-false _ _ e)
+
+  stands-in : x .known ≡ true → x .stands < length (s .carriers)
+  unfolding see
+  stands-in e = ltb-true (x .stands) (length (s .carriers)) e
+
+  holds-in : x .tied ≡ true → x .holds < length (s .carriers)
+  unfolding see
+  holds-in e = ltb-true (x .holds) (length (s .carriers)) e
+
+  -- a new record with the input's name
+  new-apt : (p : ℕ) (q : Port) (c : Carrier) → Still s p q → x .known ≡ false → c .name ≡ x .name
+      → Apt s (record { port = p; becomes = q; goes = length (s .carriers); changes = length (s .carriers); next = c; made = true })
+  new-apt p q c h u n = record {
+    still = h;
+    apart = λ b. absurd (omega arith);
+    named = λ b. absurd (omega arith);
+    lone = λ _. omega arith;
+    fresh = λ _ j b. rw n (no-namesake u j b);
+    none = λ e. clash refl e;
+  }
+
+  -- the named record changes, or a new one is made
+  named-apt : (p : ℕ) (q : Port) (g : ℕ) (c : Carrier) → Still s p q → (x .known ≡ true → x .stands ≢ g)
+      → (x .known ≡ true → c .name ≡ x .found .name) → (x .known ≡ false → c .name ≡ x .name)
+      → Apt s (record { port = p; becomes = q; goes = g; changes = x .stands; next = c; made = not (x .known) })
+  unfolding see recordOf
+  named-apt p q g c h a n m = record {
+    still = h;
+    apart = λ b. a (lt-ltb (x .stands) (length (s .carriers)) b);
+    named = λ b. n (lt-ltb (x .stands) (length (s .carriers)) b);
+    lone = λ e. ltb-false (x .stands) (length (s .carriers)) (not-true (x .known) e);
+    fresh = λ e j b. let u = not-true (x .known) e in rw (m u) (no-namesake u j b);
+    none = λ e b. clash (not-false (x .known) e) (le-ltb (x .stands) (length (s .carriers)) b);
+  }
+
+  found-name : x .known ≡ true → foundOrNew x .name ≡ x .found .name
+  unfolding foundOrNew
+  found-name e = rw e
+
+  new-name : x .known ≡ false → foundOrNew x .name ≡ x .name
+  unfolding foundOrNew
+  new-name e = rw e
+
+  -- only the port given changes, and a record may go
+  given-apt : x .isport ≡ true → (q : Port) (k : ℕ) → Apt s (onPortAndGone (x .count) (x .port) q k)
+  unfolding see
+  given-apt e q k = port-apt s (x .port) q k (given-port e q)
+
+  -- the named record changes, and a port may
+  stands-both : (p : ℕ) (q : Port) (c : Carrier) → x .known ≡ true → Still s p q → c .name ≡ x .found .name → Apt s (onBoth (x .count) p q (x .stands) c)
+  unfolding see recordOf
+  stands-both p q c u t n = both-apt s p q (x .stands) c t (stands-in u) n
+
+  own-fits : x .found .port ≤ length (s .ports)
+  unfolding see
+  own-fits = port-fits s h (x .stands)
+
+  port-given-fits : x .isport ≡ true → x .port ≤ length (s .ports)
+  unfolding see
+  port-given-fits e = leb-true (x .port) (length (s .ports)) (and-r (leb 1 (x .port)) _ e)
+
+  -- a named record that is placed at a port is tied to it
+  found-port : x .known ≡ true → atPort (x .found) ≡ true → (q : Port) → Still s (x .found .port) q
+  unfolding see recordOf
+  found-port u a q = still-in s (x .found .port) q (placed-tied s h (x .stands) (stands-in u) a) own-fits
+
+  stands-not-count : x .known ≡ true → x .stands ≢ x .count
+  unfolding see
+  stands-not-count u z = let b = stands-in u in omega arith
+
+  -- ── Row by row ────────────────────────────────────────────────────────────────────────────
+  bind-apt : Fine s (bind x)
+  unfolding see
+  bind-apt = record {
+    fine = λ e.
+        let k = clear (bind x .grounds) refl e in
+        new-apt (x .port) _ _ (given-port (k .0) _) (k .1 .1 .0) refl;
+  }
+
+  cancel-bind-apt : Fine s (cancelBind x)
+  unfolding see meant onePair
+  cancel-bind-apt = record {
+    fine = λ e.
+        let k = clear (cancelBind x .grounds) refl e in
+        let n : not (untied (meant x)) ≡ true = let o = k .1 .1 .1 .1 .0 in search (and-l, and-r) depth 5 in
+        let z = eqb-false (meant x .port) 0 (not-true _ n) in
+        port-apt s (meant x .port) _ (meantStands x) (still-in s (meant x .port) _ (omega arith) (fits (x .blank)));
+  }
+    where
+      fits : (w : Bool) → cond w (x .held) (x .found) .port ≤ length (s .ports)
+      fits true = port-fits s h (x .holds)
+      fits false = port-fits s h (x .stands)
+
+  carrier-notification-apt : Fine s (carrierNotification x)
+  unfolding see
+  carrier-notification-apt = record {
+    fine = λ e.
+        let k = clear (carrierNotification x .grounds) refl e in
+        new-apt 0 noPort _ (still-none s) (k .1 .0) refl;
+  }
+
+  cancel-carrier-notification-apt : Fine s (cancelCarrierNotification x)
+  unfolding see
+  cancel-carrier-notification-apt = record { fine = λ e. port-apt s 0 noPort (x .stands) (still-none s) }
+
+  -- a placed carrier leaves its port as it is, any other goes to the port given
+  pod-port : (w : Bool) → (w ≡ false → x .isport ≡ true) → (q : Port) → Still s (cond w 0 (x .port)) (cond w noPort q)
+  pod-port true f q = still-none s
+  pod-port false f q = given-port (f refl) q
+
+  unknown-pod-port : unknownPod x ≡ true → x .isport ≡ true
+  unfolding unknownPod
+  unknown-pod-port e = search (and-l, and-r) depth 6
+
+  -- what rows 5 and 6 take is an unknown pod, unless the carrier is placed
+  pod-given : (x .known || unknownPod x) ≡ true → (not (x .known) || placed x || takesUnknownPod x) ≡ true → placed x ≡ false → x .isport ≡ true
+  unfolding takesUnknownPod
+  pod-given a b f = go (x .known) refl
+    where
+      go : (w : Bool) → x .known ≡ w → x .isport ≡ true
+      go true e =
+          unknown-pod-port (and-r (untied (x .found)) (unknownPod x)
+          (or-other (placed x) _ (or-other (not (x .known)) _ (or-right (not (x .known)) (placed x) _ b) (rw e)) f))
+      go false e = unknown-pod-port (or-other (x .known) (unknownPod x) a e)
+
+  not-placed-new : x .known ≡ false → placed x ≡ false
+  unfolding placed
+  not-placed-new e = rw e
+
+  proceed-with-carrier-apt : Fine s (proceedWithCarrier x)
+  proceed-with-carrier-apt = record {
+    fine = λ e.
+        let k = clear (proceedWithCarrier x .grounds) refl e in
+        named-apt _ _ (x .count) _ (pod-port (placed x) (pod-given (k .1 .1 .0) (k .1 .1 .1 .0)) _) stands-not-count
+        (kept (placed x)) (λ u. rw (not-placed-new u) (new-name u));
+  }
+    where
+      kept : (w : Bool) → x .known ≡ true → cond w (proceeded (x .found)) (withId 3 (placedAt (x .port) (foundOrNew x))) .name ≡ x .found .name
+      kept true u = refl
+      kept false u = found-name u
+
+  cancel-carrier-apt : Fine s (cancelCarrier x)
+  unfolding cancelAt failed
+  cancel-carrier-apt = record {
+    fine = λ e.
+        let k = clear (cancelCarrier x .grounds) refl e in
+        named-apt _ _ (x .count) _ (at (eqb (cancelAt x) 0) refl (fits (placed x) refl (pod-given (k .1 .1 .0) (k .1 .1 .1 .0))))
+        stands-not-count (kept (placed x)) (λ u. rw (not-placed-new u) (new-name u));
+  }
+    where
+      fits : (w : Bool) → placed x ≡ w → (placed x ≡ false → x .isport ≡ true)
+          → cond w (cond (atPort (x .found)) (x .found .port) 0) (x .port) ≤ length (s .ports)
+      fits true e f = at-port (atPort (x .found))
+        where
+          at-port : (a : Bool) → cond a (x .found .port) 0 ≤ length (s .ports)
+          at-port true = own-fits
+          at-port false = omega arith
+      fits false e f = port-given-fits (f e)
+
+      at : (w : Bool) → eqb (cancelAt x) 0 ≡ w → cancelAt x ≤ length (s .ports) → Still s (cancelAt x) (cond w noPort (toUnload (cancelPort x)))
+      at true e b = rw (eqb-true (cancelAt x) 0 e) (still-none s)
+      at false e b = let z = eqb-false (cancelAt x) 0 e in still-in s (cancelAt x) _ (omega arith) b
+
+      kept : (w : Bool) → x .known ≡ true
+          → cond w (judgedNo (x .found)) (withId 4 (placedAt (x .port) (foundOrNew x))) .name ≡ x .found .name
+      kept true u = refl
+      kept false u = found-name u
+
+  carrier-out-apt : Fine s (carrierOut x)
+  unfolding see recordOf
+  carrier-out-apt = record {
+    fine = λ e.
+        let k = clear (carrierOut x .grounds) refl e in
+        both-apt s (x .port) _ (x .stands) _ (given-port (k .1 .0) _) (stands-in (k .1 .1 .0)) refl;
+  }
+
+  carrier-in-apt : Fine s (carrierIn x)
+  carrier-in-apt = record {
+    fine = λ e.
+        let k = clear (carrierIn x .grounds) refl e in
+        stands-both (x .found .port) _ _ (k .1 .0) (found-port (k .1 .0) (let o = k .1 .1 .0 in search (and-l, and-r) depth 5) _) refl;
+  }
+
+  change-access-apt : Fine s (changeAccess x)
+  change-access-apt = record { fine = λ e. given-apt (clear (changeAccess x .grounds) refl e .0) _ _ }
+
+  change-service-status-apt : Fine s (changeServiceStatus x)
+  change-service-status-apt = record { fine = λ e. given-apt (clear (changeServiceStatus x .grounds) refl e .0) _ _ }
+
+  reserve-at-port-apt : Fine s (reserveAtPort x)
+  reserve-at-port-apt = record { fine = λ e. given-apt (clear (reserveAtPort x .grounds) refl e .0) _ _ }
+
+  cancel-reservation-at-port-apt : Fine s (cancelReservationAtPort x)
+  cancel-reservation-at-port-apt = record { fine = λ e. given-apt (clear (cancelReservationAtPort x .grounds) refl e .0) _ _ }
+
+  load-start-apt : Fine s (loadStart x)
+  load-start-apt = record { fine = λ e. given-apt (clear (loadStart x .grounds) refl e .0) _ _ }
+
+  load-done-apt : Fine s (loadDone x)
+  load-done-apt = record { fine = λ e. given-apt (clear (loadDone x .grounds) refl e .0) _ _ }
+
+  load-fail-apt : Fine s (loadFail x)
+  load-fail-apt = record { fine = λ e. given-apt (clear (loadFail x .grounds) refl e .0) _ _ }
+
+  id-read-apt : Fine s (idRead x)
+  unfolding displaced
+  id-read-apt = record {
+    fine = λ e.
+        let k = clear (idRead x .grounds) refl e in
+        named-apt (x .port) _ (displaced x) _ (given-port (k .0) _) (other (eqb (x .holds) (x .stands)) refl)
+        found-name new-name;
+  }
+    where
+      other : (w : Bool) → eqb (x .holds) (x .stands) ≡ w → x .known ≡ true → x .stands ≢ cond w (x .count) (x .holds)
+      other true q u n = stands-not-count u n
+      other false q u n = eqb-false (x .holds) (x .stands) q (sym n)
+
+  id-read-failed-apt : Fine s (idReadFailed x)
+  unfolding see recordOf
+  id-read-failed-apt = record {
+    fine = λ e.
+        let k = clear (idReadFailed x .grounds) refl e in
+        record {
+          still = given-port (k .0) _;
+          apart = λ b z. let d : x .holds < length (s .carriers) = b in let w : x .holds ≡ length (s .carriers) = z in omega arith;
+          named = λ b. rw (lt-ltb (x .holds) (length (s .carriers)) b);
+          lone = λ q. clash q refl;
+          fresh = λ q. clash q refl;
+          none = λ _ b. rw (le-ltb (x .holds) (length (s .carriers)) b);
+        };
+  }
+
+  move-in-apt : Fine s (moveIn x)
+  unfolding see recordOf
+  move-in-apt = record {
+    fine = λ e.
+        let k = clear (moveIn x .grounds) refl e in
+        both-apt s (x .port) _ (x .holds) _ (given-port (k .0) _) (is-held (ltb (x .holds) (length (s .carriers))) refl (and-l _ _ (k .1 .1 .1 .0))) refl;
+  }
+    where
+      -- nothing tied is nothing verified
+      is-held : (w : Bool) → ltb (x .holds) (length (s .carriers)) ≡ w → atPort (getD (s .carriers) (x .holds) noCarrier) ≡ true → x .holds < length (s .carriers)
+      is-held true q v = ltb-true (x .holds) (length (s .carriers)) q
+      is-held false q v = clash (rw (List·getD-eq-default (s .carriers) noCarrier (ltb-false (x .holds) (length (s .carriers)) q)) at v) refl
+
+  open-apt : Fine s (openRow x)
+  open-apt = record { fine = λ e. stands-both 0 noPort _ (clear (openRow x .grounds) refl e .1 .0) (still-none s) refl }
+
+  slot-map-apt : Fine s (slotMap x)
+  slot-map-apt = record { fine = λ e. stands-both 0 noPort _ (clear (slotMap x .grounds) refl e .1 .1 .0) (still-none s) refl }
+
+  access-start-apt : Fine s (accessStart x)
+  access-start-apt = record { fine = λ e. stands-both 0 noPort _ (clear (accessStart x .grounds) refl e .1 .0) (still-none s) refl }
+
+  access-end-apt : Fine s (accessEnd x)
+  access-end-apt = record { fine = λ e. stands-both 0 noPort _ (clear (accessEnd x .grounds) refl e .1 .1 .0) (still-none s) refl }
+
+  close-apt : Fine s (closeRow x)
+  close-apt = record {
+    fine = λ e.
+        let k = clear (closeRow x .grounds) refl e in
+        stands-both _ _ _ (k .1 .0) (left (leavesPort x) refl (k .1 .0)) refl;
+  }
+    where
+      left : (w : Bool) → leavesPort x ≡ w → x .known ≡ true → Still s (cond w (x .found .port) 0) (cond w (toUnload (x .home)) noPort)
+      left true q u = found-port u (and-l _ _ q) _
+      left false q u = still-none s
+
+  unload-start-apt : Fine s (unloadStart x)
+  unload-start-apt = record { fine = λ e. given-apt (clear (unloadStart x .grounds) refl e .0) _ _ }
+
+  unload-done-apt : Fine s (unloadDone x)
+  unload-done-apt = record { fine = λ e. given-apt (clear (unloadDone x .grounds) refl e .0) _ _ }
+
+  unload-fail-apt : Fine s (unloadFail x)
+  unload-fail-apt = record { fine = λ e. given-apt (clear (unloadFail x .grounds) refl e .0) _ _ }
+
+  rows-apt : (n : ℕ) → Fine s (rowOf n x)
+  unfolding rowOf
+  rows-apt n =
+      one-of (eqb n 1) bind-apt (one-of (eqb n 2) cancel-bind-apt (one-of (eqb n 3) carrier-notification-apt
+      (one-of (eqb n 4) cancel-carrier-notification-apt (one-of (eqb n 5) proceed-with-carrier-apt (one-of (eqb n 6) cancel-carrier-apt
+      (one-of (eqb n 7) carrier-out-apt (one-of (eqb n 8) carrier-in-apt (one-of (eqb n 9) change-access-apt
+      (one-of (eqb n 10) change-service-status-apt (one-of (eqb n 11) reserve-at-port-apt (one-of (eqb n 12) cancel-reservation-at-port-apt
+      (one-of (eqb n 13) load-start-apt (one-of (eqb n 14) load-done-apt (one-of (eqb n 15) load-fail-apt
+      (one-of (eqb n 16) id-read-apt (one-of (eqb n 17) id-read-failed-apt (one-of (eqb n 18) move-in-apt
+      (one-of (eqb n 19) open-apt (one-of (eqb n 20) slot-map-apt (one-of (eqb n 21) access-start-apt
+      (one-of (eqb n 22) access-end-apt (one-of (eqb n 23) close-apt (one-of (eqb n 24) unload-start-apt
+      (one-of (eqb n 25) unload-done-apt (one-of (eqb n 26) unload-fail-apt (record { fine = λ e. absurd (omega arith) }))))))))))))))))))))))))))
+
+  pub apt : (n : ℕ) → judge (rowOf n x .grounds) ≡ 0 → Apt s (rowOf n x .effect)
+  apt n = rows-apt n .fine
