@@ -1,3 +1,4 @@
+pub mod Only
 pub mod Lowest
 pub mod Names
 pub mod Past
