@@ -137,3 +137,17 @@ module _ {A : Type 0} where
   tail-is f z g (suc n) [] e = refl
   tail-is f z g zero (x ∷ l) e = ap₂ _∷_ (g x (and-l (f x) _ e)) (tail-is f z g zero l (and-r (f x) _ e))
   tail-is f z g (suc n) (x ∷ l) e = ap (λ r. x ∷ r) (tail-is f z g n l e)
+
+  -- a table of a list that fits is the list, and z after it
+  pub take-fill : (n : ℕ) (z : A) (l : List A) → length l ≤ n → take (length l) (fill n z l) ≡ l
+  unfolding fill
+  take-fill n z [] h = refl
+  take-fill zero z (x ∷ l) h = absurd (omega arith)
+  take-fill (suc n) z (x ∷ l) h = ap (λ r. x ∷ r) (take-fill n z l (le-of-suc-le-suc h))
+
+  pub rest-fill : (f : A → Bool) (n : ℕ) (z : A) (l : List A) → f z ≡ true → every f (drop (length l) (fill n z l)) ≡ true
+  unfolding every fill
+  rest-fill f zero z [] e = refl
+  rest-fill f zero z (x ∷ l) e = refl
+  rest-fill f (suc n) z [] e = rw e (rest-fill f n z [] e)
+  rest-fill f (suc n) z (x ∷ l) e = rest-fill f n z l e

@@ -4,3 +4,4 @@ pub mod Notes
 pub mod Each
 pub mod Differ
 pub mod Answered
+pub mod Seven

@@ -111,11 +111,11 @@ module _ (s : State) (i : Input) (h : sound s ≡ true) where
   own-port k n q = still-in s (recordOf s k .port) q (omega arith) (port-fits s h k)
 
   -- no record has the input's name
-  no-namesake : x .known ≡ false → (j : ℕ) → j < length (s .carriers) → sameName (getD (s .carriers) j noCarrier .name) (x .name) ≡ false
+  pub no-namesake : x .known ≡ false → (j : ℕ) → j < length (s .carriers) → sameName (getD (s .carriers) j noCarrier .name) (x .name) ≡ false
   unfolding see nameStands
   no-namesake e = nowhere (isNamed (x .name)) (s .carriers) noCarrier (ltb-false _ _ e)
 
-  stands-in : x .known ≡ true → x .stands < length (s .carriers)
+  pub stands-in : x .known ≡ true → x .stands < length (s .carriers)
   unfolding see
   stands-in e = ltb-true (x .stands) (length (s .carriers)) e
 
@@ -239,7 +239,7 @@ module _ (s : State) (i : Input) (h : sound s ≡ true) where
           (or-other (placed x) _ (or-other (not (x .known)) _ (or-right (not (x .known)) (placed x) _ b) (rw e)) f))
       go false e = unknown-pod-port (or-other (x .known) (unknownPod x) a e)
 
-  not-placed-new : x .known ≡ false → placed x ≡ false
+  pub not-placed-new : x .known ≡ false → placed x ≡ false
   unfolding placed
   not-placed-new e = rw e
 

@@ -15,3 +15,5 @@ pub mod Reports
 pub mod Outcome
 pub mod Run
 pub mod TwelveRows
+pub mod History
+pub mod Promise

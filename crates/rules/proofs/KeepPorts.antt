@@ -1,0 +1,309 @@
+-- The rows that change only a port, or a port and a record that goes: 2, 4, 9 to 15 and 24 to 26.
+use Prim.Native.Nat.{ℕ, _≤_, _<_}
+use native.Mathlib.Omega.{arith}
+use mathlib.Core.Path.{_≡_, refl, ap, sym, _∙_}
+use mathlib.Core.Logic.{_≢_, _⊎_, inl, inr}
+use mathlib.Core.Bool.{Bool, true, false, not, cond, _&&_, _||_}
+use lib.ListN.{length}
+use lib.Dec.{eqb}
+use borrow.Author.Tests.{eqb-true, eqb-false, leb-true, lt-ltb}
+use Rattle.lists.proofs.Bools.{clash, and-l, and-r, or-other, not-true}
+use Rattle.records.specs.declared.port.Port.{Port}
+use Rattle.records.specs.declared.name.Name.{Name}
+use Rattle.records.specs.Names.{noName, sameName, holdsName}
+use Rattle.records.specs.Ports.{readyToLoad, unbound, withTransfer, emptied}
+use Rattle.records.specs.Carriers.{expected, untied}
+use Rattle.rules.specs.declared.row.Seen.{Seen}
+use Rattle.rules.specs.State.{State, portOf, recordOf}
+use Rattle.rules.specs.Seen.{Input, see}
+use Rattle.rules.specs.Row.{onPortAndGone}
+use Rattle.rules.specs.Booking.{meant, meantPort, meantStands, onePair, cancelBind, cancelCarrierNotification}
+use Rattle.rules.specs.Service.{goesOut, comesIn, changeAccess, changeServiceStatus, reserveAtPort, cancelReservationAtPort}
+use Rattle.rules.specs.Transfer.{loadStart, loadDone, loadFail, unloadStart, unloadDone, unloadFail}
+use Rattle.rules.proofs.Names.{name-same}
+use Rattle.rules.proofs.Accepts.{clear}
+use Rattle.rules.proofs.SoundParts.{PortFits, Facts}
+use Rattle.rules.proofs.Orderly.{ties-differ}
+use Rattle.rules.proofs.Keep.{Calm, Keeps}
+use Rattle.rules.proofs.KeepShapes.{Good, calm-keeps, freed-keeps, gone-keeps}
+use Rattle.rules.proofs.KeepSeen.{given-range, found-live, held-live, held-tied, held-there, only-held}
+
+-- a tie to nothing is in range
+pub no-tie : (b : Bool) → (sameName noName noName || b) ≡ true
+no-tie b = rw (name-same noName noName refl)
+
+-- access, reservation, tie and tag may change to whatever is in range
+pub marked-fits : (q : Port) → PortFits q → {a r g : ℕ} {n : Name} → a ≤ 1 → r ≤ 1 → (sameName n noName || holdsName n) ≡ true → g ≤ 2
+    → PortFits (record { transfer = q .transfer; access = a; reserved = r; tie = n; movement = q .movement; pod = q .pod; tag = g })
+marked-fits q h a r n g = record {
+  transfer = h .transfer;
+  access = a;
+  reserved = r;
+  tie = n;
+  movement = h .movement;
+  pod = h .pod;
+  tag = g;
+  moving = h .moving;
+  low = h .low;
+  load = h .load;
+}
+
+pub emptied-fits : (q : Port) → PortFits q → PortFits (emptied q)
+emptied-fits q h = record {
+  transfer = omega arith;
+  access = h .access;
+  reserved = h .reserved;
+  tie = no-tie _;
+  movement = omega arith;
+  pod = omega arith;
+  tag = omega arith;
+  moving = λ n. absurd (n refl);
+  low = λ _ z. omega arith;
+  load = λ _ z. omega arith;
+}
+
+module _ (s : State) (i : Input) (f : Facts s) where
+  abbrev x : Seen
+  x = see s i
+
+  -- ── Rows 9 to 12 ──────────────────────────────────────────────────────────────────────────
+  pub change-access-keeps : Good s (changeAccess x)
+  unfolding see
+  change-access-keeps = record {
+    good = λ e _.
+        let k = clear (changeAccess x .grounds) refl e in
+        let h = f .ports (x .port) in
+        calm-keeps s f (x .port) _ (marked-fits _ h (leb-true _ _ (k .1 .0)) (h .reserved) (h .tie) (h .tag))
+        (record { tie = refl; quiet = λ a b. (a, b) });
+  }
+
+  -- the transfer state stays, or passes between OUT OF SERVICE and READY TO LOAD
+  served : (v : ℕ) → (goesOut x && not (readyToLoad (x .here))) ≡ false
+      → v ≡ cond (goesOut x) 0 (cond (comesIn x) 1 (x .here .transfer)) → (v ≡ x .here .transfer) ⊎ ((v ≤ 1) × (x .here .transfer ≤ 1))
+  served v k e = go (goesOut x) refl (comesIn x) refl e
+    where
+      go : (o : Bool) → goesOut x ≡ o → (c : Bool) → comesIn x ≡ c → v ≡ cond o 0 (cond c 1 (x .here .transfer))
+          → (v ≡ x .here .transfer) ⊎ ((v ≤ 1) × (x .here .transfer ≤ 1))
+      go true p c q z = let r = eqb-true (x .here .transfer) 1 (ready (readyToLoad (x .here)) refl (rw p at k)) in inr (omega arith, omega arith)
+        where
+          ready : (w : Bool) → readyToLoad (x .here) ≡ w → not (readyToLoad (x .here)) ≡ false → readyToLoad (x .here) ≡ true
+          ready true r t = r
+          ready false r t = clash (rw r) t
+      go false p true q z = let r = eqb-true (x .here .transfer) 0 (and-l _ _ q) in inr (omega arith, omega arith)
+      go false p false q z = inl z
+
+  served-fits : (v : ℕ) → PortFits (x .here) → (v ≡ x .here .transfer) ⊎ ((v ≤ 1) × (x .here .transfer ≤ 1)) → PortFits (withTransfer v (x .here))
+  served-fits v h c = record {
+    transfer = range c;
+    access = h .access;
+    reserved = h .reserved;
+    tie = h .tie;
+    movement = h .movement;
+    pod = h .pod;
+    tag = h .tag;
+    moving = λ n. moving c n (h .moving n);
+    low = λ b. h .low (low c b);
+    load = h .load;
+  }
+    where
+      range : (v ≡ x .here .transfer) ⊎ ((v ≤ 1) × (x .here .transfer ≤ 1)) → v ≤ 3
+      range (inl z) = let t = h .transfer in omega arith
+      range (inr z) = omega arith
+
+      moving : (v ≡ x .here .transfer) ⊎ ((v ≤ 1) × (x .here .transfer ≤ 1)) → x .here .movement ≢ 0 → x .here .transfer ≡ 3 → v ≡ 3
+      moving (inl z) n t = omega arith
+      moving (inr z) n t = absurd (omega arith)
+
+      low : (v ≡ x .here .transfer) ⊎ ((v ≤ 1) × (x .here .transfer ≤ 1)) → v ≤ 1 → x .here .transfer ≤ 1
+      low (inl z) b = omega arith
+      low (inr z) b = z .1
+
+  served-calm : (v : ℕ) → (v ≡ x .here .transfer) ⊎ ((v ≤ 1) × (x .here .transfer ≤ 1)) → Calm (x .here) (withTransfer v (x .here))
+  served-calm v (inl z) = record { tie = refl; quiet = λ a b. (a, ap (λ t. eqb t 3) z ∙ b) }
+  served-calm v (inr z) = record { tie = refl; quiet = λ a b. let t = eqb-true (x .here .transfer) 3 b in absurd (omega arith) }
+
+  pub change-service-status-keeps : Good s (changeServiceStatus x)
+  unfolding see
+  change-service-status-keeps = record {
+    good = λ e _.
+        let k = clear (changeServiceStatus x .grounds) refl e in
+        let v = served _ (k .1 .1 .1 .0) refl in
+        calm-keeps s f (x .port) _ (served-fits _ (f .ports (x .port)) v) (served-calm _ v);
+  }
+
+  pub reserve-at-port-keeps : Good s (reserveAtPort x)
+  unfolding see
+  reserve-at-port-keeps = record {
+    good = λ e _.
+        let h = f .ports (x .port) in
+        calm-keeps s f (x .port) _ (marked-fits _ h (h .access) (omega arith) (h .tie) (h .tag)) (record { tie = refl; quiet = λ a b. (a, b) });
+  }
+
+  pub cancel-reservation-at-port-keeps : Good s (cancelReservationAtPort x)
+  unfolding see
+  cancel-reservation-at-port-keeps = record {
+    good = λ e _.
+        let h = f .ports (x .port) in
+        calm-keeps s f (x .port) _ (marked-fits _ h (h .access) (omega arith) (h .tie) (h .tag)) (record { tie = refl; quiet = λ a b. (a, b) });
+  }
+
+  -- ── Rows 13 to 15 and 24 to 26 ────────────────────────────────────────────────────────────
+  pub load-start-keeps : Good s (loadStart x)
+  unfolding see
+  load-start-keeps = record {
+    good = λ e _.
+        let k = clear (loadStart x .grounds) refl e in
+        let h = f .ports (x .port) in
+        let r = eqb-true (x .here .transfer) 1 (k .1 .0) in
+        calm-keeps s f (x .port) _
+        (record {
+          transfer = omega arith;
+          access = h .access;
+          reserved = omega arith;
+          tie = h .tie;
+          movement = omega arith;
+          pod = h .pod;
+          tag = h .tag;
+          moving = λ _. refl;
+          low = λ b. absurd (omega arith);
+          load = λ _. h .low (omega arith);
+        })
+        (record { tie = refl; quiet = λ a b. let t = eqb-true (x .here .transfer) 3 b in absurd (omega arith) });
+  }
+
+  pub load-done-keeps : Good s (loadDone x)
+  unfolding see
+  load-done-keeps = record {
+    good = λ e _.
+        let k = clear (loadDone x .grounds) refl e in
+        let h = f .ports (x .port) in
+        let r = eqb-true (x .here .movement) 1 (k .1 .0) in
+        let t = h .moving (λ z. omega arith) in
+        calm-keeps s f (x .port) _
+        (record {
+          transfer = h .transfer;
+          access = h .access;
+          reserved = h .reserved;
+          tie = h .tie;
+          movement = omega arith;
+          pod = omega arith;
+          tag = omega arith;
+          moving = λ n. absurd (n refl);
+          low = λ b. absurd (omega arith);
+          load = λ z. absurd (omega arith);
+        })
+        (record { tie = refl; quiet = λ a b. let t = eqb-true (x .here .movement) 0 a in absurd (omega arith) });
+  }
+
+  pub load-fail-keeps : Good s (loadFail x)
+  unfolding see
+  load-fail-keeps = record {
+    good = λ e _.
+        let k = clear (loadFail x .grounds) refl e in
+        let h = f .ports (x .port) in
+        let r = eqb-true (x .here .movement) 1 (k .1 .0) in
+        calm-keeps s f (x .port) _
+        (record {
+          transfer = omega arith;
+          access = h .access;
+          reserved = h .reserved;
+          tie = h .tie;
+          movement = omega arith;
+          pod = h .pod;
+          tag = h .tag;
+          moving = λ n. absurd (n refl);
+          low = λ _. h .load r;
+          load = λ z. absurd (omega arith);
+        })
+        (record { tie = refl; quiet = λ a b. let t = eqb-true (x .here .movement) 0 a in absurd (omega arith) });
+  }
+
+  pub unload-start-keeps : Good s (unloadStart x)
+  unfolding see
+  unload-start-keeps = record {
+    good = λ e _.
+        let k = clear (unloadStart x .grounds) refl e in
+        let h = f .ports (x .port) in
+        let r = eqb-true (x .here .transfer) 2 (k .1 .0) in
+        calm-keeps s f (x .port) _
+        (record {
+          transfer = omega arith;
+          access = h .access;
+          reserved = h .reserved;
+          tie = h .tie;
+          movement = omega arith;
+          pod = h .pod;
+          tag = h .tag;
+          moving = λ _. refl;
+          low = λ b. absurd (omega arith);
+          load = λ z. absurd (omega arith);
+        })
+        (record { tie = refl; quiet = λ a b. let t = eqb-true (x .here .transfer) 3 b in absurd (omega arith) });
+  }
+
+  pub unload-done-keeps : Good s (unloadDone x)
+  unfolding see
+  unload-done-keeps = record {
+    good = λ e _.
+        let k = clear (unloadDone x .grounds) refl e in
+        let r = given-range s i f (k .0) in
+        freed-keeps s f (x .port) _ (x .holds) (emptied-fits _ (f .ports (x .port))) refl (only-held s i f (r .0))
+        (λ b _. held-tied s i f (lt-ltb (x .holds) (length (s .carriers)) b));
+  }
+
+  pub unload-fail-keeps : Good s (unloadFail x)
+  unfolding see
+  unload-fail-keeps = record {
+    good = λ e _.
+        let k = clear (unloadFail x .grounds) refl e in
+        let h = f .ports (x .port) in
+        let r = eqb-true (x .here .movement) 2 (k .1 .0) in
+        calm-keeps s f (x .port) _
+        (record {
+          transfer = omega arith;
+          access = h .access;
+          reserved = h .reserved;
+          tie = h .tie;
+          movement = omega arith;
+          pod = h .pod;
+          tag = h .tag;
+          moving = λ n. absurd (n refl);
+          low = λ b. absurd (omega arith);
+          load = λ z. absurd (omega arith);
+        })
+        (record { tie = refl; quiet = λ a b. let t = eqb-true (x .here .movement) 0 a in absurd (omega arith) });
+  }
+
+  -- ── Rows 2 and 4 ──────────────────────────────────────────────────────────────────────────
+  unbind : (n : ℕ) → n ≡ length (s .carriers) → (q : Port) (k : ℕ) → k < length (s .carriers) → recordOf s k .port ≢ 0
+      → q ≡ portOf s (recordOf s k .port) → Keeps s (onPortAndGone n (recordOf s k .port) (unbound q) k)
+  unbind n m q k b d e =
+      let h = f .ports (recordOf s k .port) in
+      rw (m, e)
+      (freed-keeps s f (recordOf s k .port) _ k (marked-fits _ h (h .access) (omega arith) (no-tie _) (h .tag)) refl
+      (λ j l n z. n (ties-differ s f j k l b (λ y. d (sym z ∙ y)) z)) (λ _ _. refl))
+
+  pub cancel-bind-keeps : Good s (cancelBind x)
+  unfolding see meant meantPort meantStands onePair
+  cancel-bind-keeps = record {
+    good = λ e _.
+        let k = clear (cancelBind x .grounds) refl e in
+        let n : not (untied (meant x)) ≡ true = let o = k .1 .1 .1 .1 .0 in search (and-l, and-r) depth 5 in
+        go (x .blank) refl (k .1 .1 .1 .0) (eqb-false (meant x .port) 0 (not-true _ n));
+  }
+    where
+      go : (w : Bool) → x .blank ≡ w → (x .blank || x .known) ≡ true → cond w (x .held) (x .found) .port ≢ 0
+          → Keeps s (onPortAndGone (x .count) (cond w (x .held) (x .found) .port) (unbound (cond w (x .here) (x .home)))
+          (cond w (x .holds) (x .stands)))
+      go true e k n =
+          let t = held-there s i f n in
+          unbind (x .count) refl (x .here) (x .holds) (held-live s i f t) n (ap (portOf s) (sym (held-tied s i f t)))
+      go false e k n = unbind (x .count) refl (x .home) (x .stands) (found-live s i f (or-other (x .blank) (x .known) k e)) n refl
+
+  pub cancel-carrier-notification-keeps : Good s (cancelCarrierNotification x)
+  unfolding see
+  cancel-carrier-notification-keeps = record {
+    good = λ e _.
+        let k = clear (cancelCarrierNotification x .grounds) refl e in
+        gone-keeps s f (x .stands) (eqb-true _ 0 (and-r (expected (x .found)) _ (k .1 .1 .0)));
+  }

@@ -1,0 +1,205 @@
+-- The rows that change a record where it stands: 8 and 19 to 23.
+use Prim.Native.Nat.{ℕ, _≤_}
+use native.Mathlib.Omega.{arith}
+use mathlib.Core.Path.{_≡_, refl}
+use mathlib.Core.Logic.{_≢_}
+use mathlib.Core.Bool.{Bool, true, false, not, cond, _&&_}
+use lib.Dec.{eqb}
+use borrow.Author.Tests.{eqb-true, ne-eqb}
+use Rattle.lists.proofs.Bools.{clash, and-l, and-r, or-other}
+use Rattle.records.specs.declared.port.Port.{Port}
+use Rattle.records.specs.declared.carrier.Carrier.{Carrier}
+use Rattle.records.specs.Ports.{noPort, idle, blocked, toBlocked, toUnload}
+use Rattle.records.specs.Carriers.{atPort, inBuffer, isOpen, notAccessed, withOpened, withMap, withAccessing, takenBack}
+use Rattle.rules.specs.declared.row.Seen.{Seen}
+use Rattle.rules.specs.State.{State}
+use Rattle.rules.specs.Seen.{Input, see}
+use Rattle.rules.specs.Row.{onBoth}
+use Rattle.rules.specs.Buffer.{canGoBack, carrierIn}
+use Rattle.rules.specs.Opening.{canOpen, openRow, slotMap, accessStart, accessEnd, leavesPort, closeRow}
+use Rattle.rules.proofs.Accepts.{clear}
+use Rattle.rules.proofs.Apt.{Apt}
+use Rattle.rules.proofs.SoundParts.{PortFits, Fits, Facts}
+use Rattle.rules.proofs.Keep.{Keeps}
+use Rattle.rules.proofs.KeepShapes.{Good, record-keeps, both-keeps}
+use Rattle.rules.proofs.KeepSeen.{found-live, found-fits, home-fits, map-fits}
+
+-- the changes of a record that leave it where it stands
+opened-fits : (P B v : ℕ) (c : Carrier) → v ≤ 1 → Fits P B c → Fits P B (withOpened v c)
+opened-fits P B v c b h = record {
+  named = h .named;
+  stands = h .stands;
+  opened = b;
+  cancelled = h .cancelled;
+  cameout = h .cameout;
+  map = h .map;
+  id = h .id;
+  slot = h .slot;
+  accessing = h .accessing;
+}
+
+accessing-fits : (P B v : ℕ) (c : Carrier) → (1 ≤ v) × (v ≤ 4) → Fits P B c → Fits P B (withAccessing v c)
+accessing-fits P B v c b h = record {
+  named = h .named;
+  stands = h .stands;
+  opened = h .opened;
+  cancelled = h .cancelled;
+  cameout = h .cameout;
+  map = h .map;
+  id = h .id;
+  slot = h .slot;
+  accessing = b;
+}
+
+-- READY TO UNLOAD, where nothing moves
+pub unload-fits : (q : Port) → idle q ≡ true → PortFits q → PortFits (toUnload q)
+unload-fits q i h =
+    let m = eqb-true (q .movement) 0 i in
+    record {
+      transfer = omega arith;
+      access = h .access;
+      reserved = h .reserved;
+      tie = h .tie;
+      movement = h .movement;
+      pod = h .pod;
+      tag = h .tag;
+      moving = λ n. absurd (n m);
+      low = λ b. absurd (omega arith);
+      load = h .load;
+    }
+
+pub shut : {X : Type 0} → eqb 0 1 ≡ true → X
+shut e = clash e refl
+
+module _ (s : State) (i : Input) (f : Facts s) where
+  abbrev x : Seen
+  x = see s i
+
+  pub open-keeps : Good s (openRow x)
+  unfolding see
+  open-keeps = record {
+    good = λ e a.
+        let k = clear (openRow x .grounds) refl e in
+        let u = found-fits s i f (k .1 .0) in
+        record-keeps s f (x .stands) (withOpened 1 (x .found)) a (found-live s i f (k .1 .0)) (opened-fits _ _ 1 _ (omega arith) u)
+        (record { name = refl; place = refl; spot = refl; port = refl }) (λ _ n. at n (k .1 .1 .0));
+  }
+    where
+      at : x .found .place ≢ 2 → canOpen x ≡ true → (x .found .place ≡ 1) × (idle (x .home) ≡ true) × (blocked (x .home) ≡ true)
+      at n t =
+          let o : (eqb (x .places) 0 && atPort (x .found) && idle (x .home) && blocked (x .home)) ≡ true =
+          or-other (inBuffer (x .found)) _ (and-r (not (isOpen (x .found)) && notAccessed (x .found)) _ t) (ne-eqb (x .found .place) 2 n) in
+          (eqb-true _ 1 (search (and-l, and-r) depth 5), search (and-l, and-r) depth 5, search (and-l, and-r) depth 5)
+
+  pub slot-map-keeps : Good s (slotMap x)
+  unfolding see
+  slot-map-keeps = record {
+    good = λ e a.
+        let k = clear (slotMap x .grounds) refl e in
+        let h = found-fits s i f (k .1 .1 .0) in
+        let b = found-live s i f (k .1 .1 .0) in
+        record-keeps s f (x .stands) (withMap (x .map) 2 (x .found)) a b
+        (record {
+          named = h .named;
+          stands = h .stands;
+          opened = h .opened;
+          cancelled = h .cancelled;
+          cameout = h .cameout;
+          map = map-fits s i f (k .1 .0);
+          id = h .id;
+          slot = (omega arith, omega arith);
+          accessing = h .accessing;
+        })
+        (record { name = refl; place = refl; spot = refl; port = refl }) (f .shown (x .stands) b);
+  }
+
+  pub access-start-keeps : Good s (accessStart x)
+  unfolding see
+  access-start-keeps = record {
+    good = λ e a.
+        let k = clear (accessStart x .grounds) refl e in
+        let b = found-live s i f (k .1 .0) in
+        record-keeps s f (x .stands) (withAccessing 2 (x .found)) a b
+        (accessing-fits _ _ 2 _ (omega arith, omega arith) (found-fits s i f (k .1 .0)))
+        (record { name = refl; place = refl; spot = refl; port = refl }) (f .shown (x .stands) b);
+  }
+
+  pub access-end-keeps : Good s (accessEnd x)
+  unfolding see
+  access-end-keeps = record {
+    good = λ e a.
+        let k = clear (accessEnd x .grounds) refl e in
+        let b = found-live s i f (k .1 .1 .0) in
+        record-keeps s f (x .stands) (withAccessing (cond (eqb (x .value) 0) 3 4) (x .found)) a b
+        (accessing-fits _ _ _ _ (ended (eqb (x .value) 0)) (found-fits s i f (k .1 .1 .0)))
+        (record { name = refl; place = refl; spot = refl; port = refl }) (f .shown (x .stands) b);
+  }
+    where
+      ended : (w : Bool) → (1 ≤ cond w 3 4) × (cond w 3 4 ≤ 4)
+      ended true = (omega arith, omega arith)
+      ended false = (omega arith, omega arith)
+
+  pub close-keeps : Good s (closeRow x)
+  unfolding see
+  close-keeps = record {
+    good = λ e a.
+        let k = clear (closeRow x .grounds) refl e in
+        go (leavesPort x) refl (k .1 .0) (and-l _ _ (k .1 .1 .0)) a;
+  }
+    where
+      go : (w : Bool) → leavesPort x ≡ w → x .known ≡ true → isOpen (x .found) ≡ true
+          → Apt s (onBoth (x .count) (cond w (x .found .port) 0) (cond w (toUnload (x .home)) noPort) (x .stands) (withOpened 0 (x .found)))
+          → Keeps s (onBoth (x .count) (cond w (x .found .port) 0) (cond w (toUnload (x .home)) noPort) (x .stands) (withOpened 0 (x .found)))
+      go true q u o a =
+          let b = found-live s i f u in
+          let p = eqb-true (x .found .place) 1 (and-l _ _ q) in
+          let r = f .shown (x .stands) b o (λ z. let y : x .found .place ≡ 2 = z in omega arith) in
+          let t = found-fits s i f u .stands .atTied p in
+          both-keeps s f (x .found .port) (toUnload (x .home)) (x .stands) (withOpened 0 (x .found)) a b
+          (λ z. let y : x .found .port ≡ 0 = z in omega arith) refl
+          (unload-fits (x .home) (r .1) (home-fits s i f)) refl (opened-fits _ _ 0 _ (omega arith) (found-fits s i f u))
+          (record { name = refl; place = refl; spot = refl; port = refl }) (λ z. shut z)
+      go false q u o a =
+          record-keeps s f (x .stands) (withOpened 0 (x .found)) a (found-live s i f u) (opened-fits _ _ 0 _ (omega arith) (found-fits s i f u))
+          (record { name = refl; place = refl; spot = refl; port = refl }) (λ z. shut z)
+
+  pub carrier-in-keeps : Good s (carrierIn x)
+  unfolding see
+  carrier-in-keeps = record {
+    good = λ e a.
+        let k = clear (carrierIn x .grounds) refl e in
+        let b = found-live s i f (k .1 .0) in
+        let h = found-fits s i f (k .1 .0) in
+        let q = home-fits s i f in
+        let g : canGoBack x ≡ true = k .1 .1 .0 in
+        let p = h .stands .atTied (eqb-true (x .found .place) 1 (and-l _ _ (and-l _ _ g))) in
+        let u = eqb-true (x .home .transfer) 2 (and-r (atPort (x .found)) _ (and-l _ _ g)) in
+        both-keeps s f (x .found .port) (toBlocked (x .home)) (x .stands) (takenBack (x .found)) a b
+        (λ z. let y : x .found .port ≡ 0 = z in omega arith) refl
+        (record {
+          transfer = omega arith;
+          access = q .access;
+          reserved = q .reserved;
+          tie = q .tie;
+          movement = q .movement;
+          pod = q .pod;
+          tag = q .tag;
+          moving = λ _. refl;
+          low = λ b. absurd (omega arith);
+          load = q .load;
+        })
+        refl
+        (record {
+          named = h .named;
+          stands = h .stands;
+          opened = h .opened;
+          cancelled = h .cancelled;
+          cameout = omega arith;
+          map = h .map;
+          id = h .id;
+          slot = h .slot;
+          accessing = h .accessing;
+        })
+        (record { name = refl; place = refl; spot = refl; port = refl })
+        (λ o n. let r = eqb-true (x .home .transfer) 3 (f .shown (x .stands) b o n .2) in absurd (omega arith));
+  }

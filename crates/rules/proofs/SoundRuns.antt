@@ -1,0 +1,123 @@
+-- Every input keeps a sound state sound, a tool as it is set up is sound, and so is every state that a run reaches.
+use Prim.Native.Nat.{ℕ, zero, suc, _+_, _≤_}
+use native.Mathlib.Omega.{arith}
+use mathlib.Core.Path.{_≡_, refl, _∙_}
+use mathlib.Core.Bool.{Bool, true, false, cond}
+use mathlib.Core.List.{List, [], _∷_}
+use lib.ListN.{length, length-set, length-replicate}
+use lib.Dec.{eqb}
+use borrow.Author.Tests.{eqb-true, le-leb}
+use Rattle.lists.specs.Lists.{every, everyTwo, any, howMany, sameList}
+use Rattle.records.specs.Names.{sameName}
+use Rattle.records.specs.Ports.{newPort}
+use Rattle.rules.specs.State.{State, portOf, start}
+use Rattle.rules.specs.Sound.{portInRange, inRange, tieHeld, tiesAgree, fewExpected, portAgrees, sound}
+use Rattle.rules.specs.Seen.{Input, see}
+use Rattle.rules.specs.Row.{Row, enact}
+use Rattle.rules.specs.Rows.{rowOf}
+use Rattle.rules.specs.Outcome.{rowIn, answerIn, stateAfter}
+use Rattle.rules.specs.History.{reached}
+use Rattle.rules.specs.Promise.{Orderly}
+use Rattle.rules.proofs.Lowest.{row-first-is-lowest}
+use Rattle.rules.proofs.Apt.{apt}
+use Rattle.rules.proofs.SoundParts.{Facts, facts}
+use Rattle.rules.proofs.Orderly.{orderly, bounded}
+use Rattle.rules.proofs.Keep.{keeps-sound}
+use Rattle.rules.proofs.KeepShapes.{Good}
+use Rattle.rules.proofs.KeepPorts.{cancel-bind-keeps, cancel-carrier-notification-keeps, change-access-keeps, change-service-status-keeps, reserve-at-port-keeps, cancel-reservation-at-port-keeps, load-start-keeps, load-done-keeps, load-fail-keeps, unload-start-keeps, unload-done-keeps, unload-fail-keeps}
+use Rattle.rules.proofs.KeepRecords.{carrier-in-keeps, open-keeps, slot-map-keeps, access-start-keeps, access-end-keeps, close-keeps}
+use Rattle.rules.proofs.KeepArrivals.{bind-keeps, carrier-notification-keeps, carrier-out-keeps, id-read-keeps, id-read-failed-keeps, move-in-keeps}
+use Rattle.rules.proofs.KeepVerdict.{proceed-with-carrier-keeps, cancel-carrier-keeps}
+
+one-of : {s : State} {r q : Row} (b : Bool) → Good s r → Good s q → Good s (cond b r q)
+one-of true f g = f
+one-of false f g = g
+
+rows-keep : (s : State) (i : Input) (f : Facts s) (n : ℕ) → Good s (rowOf n (see s i))
+unfolding rowOf
+rows-keep s i f n =
+    one-of (eqb n 1) (bind-keeps s i f) (one-of (eqb n 2) (cancel-bind-keeps s i f)
+    (one-of (eqb n 3) (carrier-notification-keeps s i f) (one-of (eqb n 4) (cancel-carrier-notification-keeps s i f)
+    (one-of (eqb n 5) (proceed-with-carrier-keeps s i f) (one-of (eqb n 6) (cancel-carrier-keeps s i f)
+    (one-of (eqb n 7) (carrier-out-keeps s i f) (one-of (eqb n 8) (carrier-in-keeps s i f)
+    (one-of (eqb n 9) (change-access-keeps s i f) (one-of (eqb n 10) (change-service-status-keeps s i f)
+    (one-of (eqb n 11) (reserve-at-port-keeps s i f) (one-of (eqb n 12) (cancel-reservation-at-port-keeps s i f)
+    (one-of (eqb n 13) (load-start-keeps s i f) (one-of (eqb n 14) (load-done-keeps s i f)
+    (one-of (eqb n 15) (load-fail-keeps s i f) (one-of (eqb n 16) (id-read-keeps s i f)
+    (one-of (eqb n 17) (id-read-failed-keeps s i f) (one-of (eqb n 18) (move-in-keeps s i f)
+    (one-of (eqb n 19) (open-keeps s i f) (one-of (eqb n 20) (slot-map-keeps s i f)
+    (one-of (eqb n 21) (access-start-keeps s i f) (one-of (eqb n 22) (access-end-keeps s i f)
+    (one-of (eqb n 23) (close-keeps s i f) (one-of (eqb n 24) (unload-start-keeps s i f)
+    (one-of (eqb n 25) (unload-done-keeps s i f) (one-of (eqb n 26) (unload-fail-keeps s i f)
+    (record { good = λ e _. absurd (omega arith) }))))))))))))))))))))))))))
+
+-- one input, refused or accepted
+pub sound-after : (s : State) (i : Input) → sound s ≡ true → sound (stateAfter s i) ≡ true
+unfolding stateAfter answerIn
+sound-after s i h = go (eqb (answerIn s i) 0) refl
+  where
+    go : (b : Bool) → eqb (answerIn s i) 0 ≡ b → sound (cond b (enact (rowIn s i .effect) s) s) ≡ true
+    go true e =
+        let j = row-first-is-lowest (i .number) (see s i) ∙ eqb-true (answerIn s i) 0 e in
+        let f = facts s h in
+        let a = apt s i h (i .number) j in
+        keeps-sound s f (rowIn s i .effect) a (rows-keep s i f (i .number) .good j a)
+    go false e = h
+
+-- the ports and the places of a tool stay as many as they are
+pub ports-after : (s : State) (i : Input) → length (stateAfter s i .ports) ≡ length (s .ports)
+unfolding stateAfter enact
+ports-after s i = go (eqb (answerIn s i) 0)
+  where
+    go : (b : Bool) → length (cond b (enact (rowIn s i .effect) s) s .ports) ≡ length (s .ports)
+    go true = length-set (s .ports) _ _
+    go false = refl
+
+pub places-after : (s : State) (i : Input) → stateAfter s i .places ≡ s .places
+unfolding stateAfter enact
+places-after s i = go (eqb (answerIn s i) 0)
+  where
+    go : (b : Bool) → cond b (enact (rowIn s i .effect) s) s .places ≡ s .places
+    go true = refl
+    go false = refl
+
+-- ── Runs ────────────────────────────────────────────────────────────────────────────────────
+pub sound-reached : (s : State) → sound s ≡ true → (run : List Input) → sound (reached s run) ≡ true
+unfolding reached
+sound-reached s h [] = h
+sound-reached s h (i ∷ earlier) = sound-after (reached s earlier) i (sound-reached s h earlier)
+
+pub ports-reached : (s : State) (run : List Input) → length (reached s run .ports) ≡ length (s .ports)
+unfolding reached
+ports-reached s [] = refl
+ports-reached s (i ∷ earlier) = ports-after (reached s earlier) i ∙ ports-reached s earlier
+
+pub places-reached : (s : State) (run : List Input) → reached s run .places ≡ s .places
+unfolding reached
+places-reached s [] = refl
+places-reached s (i ∷ earlier) = places-after (reached s earlier) i ∙ places-reached s earlier
+
+-- ── Set-up ──────────────────────────────────────────────────────────────────────────────────
+pub sound-start : (P B : ℕ) → 1 ≤ P → P ≤ 4 → B ≤ 16 → sound (start P B) ≡ true
+unfolding sound inRange tiesAgree tieHeld fewExpected every everyTwo any howMany portInRange portAgrees portOf sameName sameList
+sound-start zero B a b c = absurd (omega arith)
+sound-start (suc zero) B a b c = rw (le-leb B 16 c)
+sound-start (suc (suc zero)) B a b c = rw (le-leb B 16 c)
+sound-start (suc (suc (suc zero))) B a b c = rw (le-leb B 16 c)
+sound-start (suc (suc (suc (suc zero)))) B a b c = rw (le-leb B 16 c)
+sound-start (suc (suc (suc (suc (suc P))))) B a b c = absurd (omega arith)
+
+-- ── The promise's first half, for every run from a valid set-up ─────────────────────────────
+module _ (P B : ℕ) (a : 1 ≤ P) (b : P ≤ 4) (c : B ≤ 16) (run : List Input) where
+  pub sound-run : sound (reached (start P B) run) ≡ true
+  sound-run = sound-reached (start P B) (sound-start P B a b c) run
+
+  pub orderly-run : Orderly (reached (start P B) run)
+  orderly-run = orderly (reached (start P B) run) sound-run
+
+  pub few-run : length (reached (start P B) run .carriers) ≤ P + B + 16
+  few-run =
+      let h = bounded (reached (start P B) run) sound-run in
+      let p : length (reached (start P B) run .ports) ≡ P = ports-reached (start P B) run ∙ length-replicate P newPort in
+      let q : reached (start P B) run .places ≡ B = places-reached (start P B) run in
+      omega arith
