@@ -5,6 +5,7 @@ pub mod Past
 pub mod Holding
 pub mod SoundFacts
 pub mod TwelveRows
+pub mod Reachable
 pub mod Accepts
 pub mod Apt
 pub mod SoundParts

@@ -17,3 +17,4 @@ pub mod Run
 pub mod TwelveRows
 pub mod History
 pub mod Promise
+pub mod Reachable
