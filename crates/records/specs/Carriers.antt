@@ -64,52 +64,208 @@ accessEnded c = leb 3 (c .accessing)
 
 -- no carrier: every field zero
 abbrev pub noCarrier : Carrier
-noCarrier = record { name = noName; place = 0; spot = 0; port = 0; opened = 0; cancelled = 0; cameout = 0; map = replicate 25 0; id = 0; slot = 0; accessing = 0 }
+noCarrier = record {
+  name = noName;
+  place = 0;
+  spot = 0;
+  port = 0;
+  opened = 0;
+  cancelled = 0;
+  cameout = 0;
+  map = replicate 25 0;
+  id = 0;
+  slot = 0;
+  accessing = 0;
+}
 
 -- a new record, tied to port p (0: to none)
 abbrev pub newCarrier : Name → ℕ → Carrier
-newCarrier n p = record { name = n; place = 0; spot = 0; port = p; opened = 0; cancelled = 0; cameout = 0; map = replicate 25 0; id = 1; slot = 1; accessing = 1 }
+newCarrier n p = record {
+  name = n;
+  place = 0;
+  spot = 0;
+  port = p;
+  opened = 0;
+  cancelled = 0;
+  cameout = 0;
+  map = replicate 25 0;
+  id = 1;
+  slot = 1;
+  accessing = 1;
+}
 
 -- at port p, tied to it
 abbrev pub placedAt : ℕ → Carrier → Carrier
-placedAt p c = record { name = c .name; place = 1; spot = 0; port = p; opened = c .opened; cancelled = c .cancelled; cameout = c .cameout; map = c .map; id = c .id; slot = c .slot; accessing = c .accessing }
+placedAt p c = record {
+  name = c .name;
+  place = 1;
+  spot = 0;
+  port = p;
+  opened = c .opened;
+  cancelled = c .cancelled;
+  cameout = c .cameout;
+  map = c .map;
+  id = c .id;
+  slot = c .slot;
+  accessing = c .accessing;
+}
 
 -- ID status set
 abbrev pub withId : ℕ → Carrier → Carrier
-withId v c = record { name = c .name; place = c .place; spot = c .spot; port = c .port; opened = c .opened; cancelled = c .cancelled; cameout = c .cameout; map = c .map; id = v; slot = c .slot; accessing = c .accessing }
+withId v c = record {
+  name = c .name;
+  place = c .place;
+  spot = c .spot;
+  port = c .port;
+  opened = c .opened;
+  cancelled = c .cancelled;
+  cameout = c .cameout;
+  map = c .map;
+  id = v;
+  slot = c .slot;
+  accessing = c .accessing;
+}
 
 -- the host says yes: the ID that waits is OK, else the slot map is
 abbrev pub proceeded : Carrier → Carrier
-proceeded c = record { name = c .name; place = c .place; spot = c .spot; port = c .port; opened = c .opened; cancelled = c .cancelled; cameout = c .cameout; map = c .map; id = cond (idWaits c) 3 (c .id); slot = cond (idWaits c) (c .slot) 3; accessing = c .accessing }
+proceeded c = record {
+  name = c .name;
+  place = c .place;
+  spot = c .spot;
+  port = c .port;
+  opened = c .opened;
+  cancelled = c .cancelled;
+  cameout = c .cameout;
+  map = c .map;
+  id = cond (idWaits c) 3 (c .id);
+  slot = cond (idWaits c) (c .slot) 3;
+  accessing = c .accessing;
+}
 
 -- the host says no: the ID that waits is FAILED, else the slot map that waits is
 abbrev pub judgedNo : Carrier → Carrier
-judgedNo c = record { name = c .name; place = c .place; spot = c .spot; port = c .port; opened = c .opened; cancelled = c .cancelled; cameout = c .cameout; map = c .map; id = cond (idWaits c) 4 (c .id); slot = cond (not (idWaits c) && slotWaits c) 4 (c .slot); accessing = c .accessing }
+judgedNo c = record {
+  name = c .name;
+  place = c .place;
+  spot = c .spot;
+  port = c .port;
+  opened = c .opened;
+  cancelled = c .cancelled;
+  cameout = c .cameout;
+  map = c .map;
+  id = cond (idWaits c) 4 (c .id);
+  slot = cond (not (idWaits c) && slotWaits c) 4 (c .slot);
+  accessing = c .accessing;
+}
 
 -- cancelled and closed; came-out goes off unless it stays
 abbrev pub cancelledBy : Bool → Carrier → Carrier
-cancelledBy stays c = record { name = c .name; place = c .place; spot = c .spot; port = c .port; opened = 0; cancelled = 1; cameout = cond stays (c .cameout) 0; map = c .map; id = c .id; slot = c .slot; accessing = c .accessing }
+cancelledBy stays c = record {
+  name = c .name;
+  place = c .place;
+  spot = c .spot;
+  port = c .port;
+  opened = 0;
+  cancelled = 1;
+  cameout = cond stays (c .cameout) 0;
+  map = c .map;
+  id = c .id;
+  slot = c .slot;
+  accessing = c .accessing;
+}
 
 -- out of the buffer to port p
 abbrev pub takenOut : ℕ → Carrier → Carrier
-takenOut p c = record { name = c .name; place = 1; spot = 0; port = p; opened = c .opened; cancelled = c .cancelled; cameout = 1; map = c .map; id = c .id; slot = c .slot; accessing = c .accessing }
+takenOut p c = record {
+  name = c .name;
+  place = 1;
+  spot = 0;
+  port = p;
+  opened = c .opened;
+  cancelled = c .cancelled;
+  cameout = 1;
+  map = c .map;
+  id = c .id;
+  slot = c .slot;
+  accessing = c .accessing;
+}
 
 -- came-out goes off
 abbrev pub takenBack : Carrier → Carrier
-takenBack c = record { name = c .name; place = c .place; spot = c .spot; port = c .port; opened = c .opened; cancelled = c .cancelled; cameout = 0; map = c .map; id = c .id; slot = c .slot; accessing = c .accessing }
+takenBack c = record {
+  name = c .name;
+  place = c .place;
+  spot = c .spot;
+  port = c .port;
+  opened = c .opened;
+  cancelled = c .cancelled;
+  cameout = 0;
+  map = c .map;
+  id = c .id;
+  slot = c .slot;
+  accessing = c .accessing;
+}
 
 -- in the buffer place b, tied to no port
 abbrev pub movedIn : ℕ → Carrier → Carrier
-movedIn b c = record { name = c .name; place = 2; spot = b; port = 0; opened = c .opened; cancelled = c .cancelled; cameout = c .cameout; map = c .map; id = c .id; slot = c .slot; accessing = c .accessing }
+movedIn b c = record {
+  name = c .name;
+  place = 2;
+  spot = b;
+  port = 0;
+  opened = c .opened;
+  cancelled = c .cancelled;
+  cameout = c .cameout;
+  map = c .map;
+  id = c .id;
+  slot = c .slot;
+  accessing = c .accessing;
+}
 
 -- open or closed
 abbrev pub withOpened : ℕ → Carrier → Carrier
-withOpened v c = record { name = c .name; place = c .place; spot = c .spot; port = c .port; opened = v; cancelled = c .cancelled; cameout = c .cameout; map = c .map; id = c .id; slot = c .slot; accessing = c .accessing }
+withOpened v c = record {
+  name = c .name;
+  place = c .place;
+  spot = c .spot;
+  port = c .port;
+  opened = v;
+  cancelled = c .cancelled;
+  cameout = c .cameout;
+  map = c .map;
+  id = c .id;
+  slot = c .slot;
+  accessing = c .accessing;
+}
 
 -- the map kept, slot status set
 abbrev pub withMap : List ℕ → ℕ → Carrier → Carrier
-withMap m v c = record { name = c .name; place = c .place; spot = c .spot; port = c .port; opened = c .opened; cancelled = c .cancelled; cameout = c .cameout; map = m; id = c .id; slot = v; accessing = c .accessing }
+withMap m v c = record {
+  name = c .name;
+  place = c .place;
+  spot = c .spot;
+  port = c .port;
+  opened = c .opened;
+  cancelled = c .cancelled;
+  cameout = c .cameout;
+  map = m;
+  id = c .id;
+  slot = v;
+  accessing = c .accessing;
+}
 
 -- accessing set
 abbrev pub withAccessing : ℕ → Carrier → Carrier
-withAccessing v c = record { name = c .name; place = c .place; spot = c .spot; port = c .port; opened = c .opened; cancelled = c .cancelled; cameout = c .cameout; map = c .map; id = c .id; slot = c .slot; accessing = v }
+withAccessing v c = record {
+  name = c .name;
+  place = c .place;
+  spot = c .spot;
+  port = c .port;
+  opened = c .opened;
+  cancelled = c .cancelled;
+  cameout = c .cameout;
+  map = c .map;
+  id = c .id;
+  slot = c .slot;
+  accessing = v;
+}
