@@ -4,12 +4,15 @@ use native.Mathlib.Nat.{le-of-suc-le-suc}
 use native.Mathlib.Omega.{arith}
 use native.Mathlib.Numerals.{add-one}
 use mathlib.Core.Path.{_≡_, refl, ap, ap₂, sym, _∙_}
-use mathlib.Core.Bool.{Bool, true, false, _&&_}
+use mathlib.Core.Bool.{Bool, true, false, cond}
 use mathlib.Core.List.{List, [], _∷_, _++_}
-use lib.ListN.{length, getD, set, take, drop, replicate}
+use lib.ListN.{length, getD, set, take, drop, replicate, List·getD-eq-default}
+use lib.Dec.{ltb}
+use borrow.Author.Tests.{ltb-true, ltb-false}
 use lib.Seq.{take-suc, take-all, length-take-le}
 use Rattle.lists.specs.Lists.{every, without, fill, shifted}
 use Rattle.lists.proofs.Bools.{and-l, and-r}
+use Rattle.lists.proofs.Loops.{getD-any}
 
 module _ {A : Type 0} where
   pub length-fill : (n : ℕ) (z : A) (l : List A) → length (fill n z l) ≡ n
@@ -151,3 +154,17 @@ module _ {A : Type 0} where
   rest-fill f zero z (x ∷ l) e = refl
   rest-fill f (suc n) z [] e = rw e (rest-fill f n z [] e)
   rest-fill f (suc n) z (x ∷ l) e = rest-fill f n z l e
+
+  -- a position kept within the table, and z where it was outside
+  pub kept-within : (l : List A) (n : ℕ) (d z : A) (k : ℕ) → length l ≡ suc n
+      → cond (ltb k (suc n)) (getD l (cond (ltb k n) k n) d) z ≡ getD l k z
+  kept-within l n d z k h = go (ltb k (suc n)) refl (ltb k n) refl
+    where
+      go : (a : Bool) → ltb k (suc n) ≡ a → (b : Bool) → ltb k n ≡ b → cond a (getD l (cond b k n) d) z ≡ getD l k z
+      go false e b f = sym (List·getD-eq-default l z (let o = ltb-false k (suc n) e in omega arith))
+      go true e true f = getD-any l k d z (let o = ltb-true k (suc n) e in omega arith)
+      go true e false f =
+          let o = ltb-true k (suc n) e in
+          let p = ltb-false k n f in
+          let q : n ≡ k = omega arith in
+          ap (λ j. getD l j d) q ∙ getD-any l k d z (omega arith)

@@ -1,22 +1,18 @@
 -- What the code puts together is what is to be answered.
 use Prim.Native.Nat.{ℕ}
-use mathlib.Core.Path.{_≡_, refl, ap, sym, _∙_}
-use mathlib.Core.Bool.{Bool, true, false}
+use mathlib.Core.Path.{_≡_, refl, sym, _∙_}
+use mathlib.Core.Bool.{true}
 use mathlib.Core.List.{List}
-use lib.Dec.{eqb}
-use lib.ListN.{length}
-use borrow.Author.Tests.{eq-eqb, ne-eqb}
+use borrow.Author.Tests.{ne-eqb}
 use Rattle.rules.specs.declared.tool.Tool.{Tool}
 use Rattle.rules.specs.declared.row.Effect.{Effect}
 use Rattle.rules.specs.declared.report.Report.{Report}
-use Rattle.rules.specs.declared.report.Outcome.{Outcome}
-use Rattle.rules.specs.State.{State, stateOf, portAt, recordAt, inTool}
+use Rattle.rules.specs.State.{State, stateOf, portAt, recordAt}
 use Rattle.rules.specs.Sound.{soundTool}
 use Rattle.rules.specs.Held.{Held}
 use Rattle.rules.specs.Seen.{Input, inputOf, see}
 use Rattle.rules.specs.Row.{judge, lowest, enact}
-use Rattle.rules.specs.Rows.{rowOf}
-use Rattle.rules.specs.Reports.{listed, noReports, differences}
+use Rattle.rules.specs.Reports.{noReports, differences}
 use Rattle.rules.specs.Outcome.{refused, rowIn, answerIn, stateAfter, outcomeIn}
 use Rattle.rules.proofs.Lowest.{row-first-is-lowest}
 use Rattle.rules.proofs.Holding.{port-held, record-held, tool-sound}

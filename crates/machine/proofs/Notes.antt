@@ -1,13 +1,13 @@
 -- Reports noted one after the other are the list of them.
-use Prim.Native.Nat.{ℕ, _+_, _≤_, _<_}
+use Prim.Native.Nat.{ℕ, _+_}
 use native.Mathlib.Omega.{arith}
 use mathlib.Core.Path.{_≡_, refl, ap, sym, _∙_}
 use mathlib.Core.Bool.{Bool, true, false, cond}
 use mathlib.Core.List.{List, [], _∷_, _++_, append-nil, append-assoc}
-use lib.ListN.{length, set, take, length-append, length-take}
+use lib.ListN.{length, set, take, length-append}
 use lib.Seq.{set-out, take-all, take-append-le, length-take-le}
 use lib.Dec.{ltb}
-use borrow.Author.Tests.{lt-ltb, le-ltb, ltb-true, ltb-false}
+use borrow.Author.Tests.{ltb-true, ltb-false}
 use Rattle.lists.specs.Lists.{fill}
 use Rattle.lists.proofs.Tables.{push-fill, length-fill}
 use Rattle.rules.specs.declared.report.Report.{Report}

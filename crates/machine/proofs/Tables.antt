@@ -1,7 +1,5 @@
 -- What a row sees, read off the tables.
-use Prim.Native.Nat.{ℕ}
-use mathlib.Core.Path.{_≡_, refl, ap, sym, _∙_}
-use mathlib.Core.Bool.{_&&_}
+use mathlib.Core.Path.{_≡_}
 use lib.ListN.{length}
 use lib.Dec.{eqb, leb, ltb}
 use Rattle.lists.specs.Lists.{between}
@@ -9,7 +7,7 @@ use Rattle.records.specs.Names.{isName, inBytes}
 use Rattle.records.specs.Maps.{isMap, inMap}
 use Rattle.rules.specs.declared.tool.Tool.{Tool}
 use Rattle.rules.specs.declared.row.Seen.{Seen}
-use Rattle.rules.specs.State.{stateOf, portOf, recordOf, portAt, recordAt}
+use Rattle.rules.specs.State.{stateOf, portAt, recordAt}
 use Rattle.rules.specs.Held.{Held}
 use Rattle.rules.specs.Seen.{Input, narrow, nameStands, tieStands, howManyExpected, spotTaken, someOpen, see}
 use Rattle.rules.proofs.Holding.{used-held, count-held, port-held, record-held}

@@ -1,7 +1,7 @@
 -- An effect carried out on the tables.
 use Prim.Native.Nat.{ℕ, _+_, _-_}
 use mathlib.Core.Bool.{Bool, cond}
-use mathlib.Core.List.{List, [], _∷_, _++_}
+use mathlib.Core.List.{List}
 use lib.ListN.{set}
 use lib.Dec.{ltb}
 use Rattle.lists.specs.Lists.{shifted}

@@ -1,14 +1,14 @@
 -- What one pass over the records gathers.
 use Prim.Native.Nat.{ℕ, _+_}
-use mathlib.Core.Bool.{Bool, cond, _&&_, _||_}
-use lib.Dec.{eqb, leb}
+use mathlib.Core.Bool.{cond, _||_}
 use Rattle.records.specs.declared.name.Name.{Name}
 use Rattle.records.specs.declared.carrier.Carrier.{Carrier}
-use Rattle.records.specs.Names.{sameName}
 use Rattle.records.specs.Carriers.{expected, isOpen}
-use Rattle.rules.specs.State.{State}
+use Rattle.rules.specs.declared.tool.Tool.{Tool}
+use Rattle.rules.specs.State.{State, stateOf, recordAt}
 use Rattle.rules.specs.Seen.{isNamed, isTiedTo, isInSpot, nameStands, tieStands, howManyExpected, spotTaken, someOpen}
 use Rattle.machine.specs.declared.look.Passed.{Passed}
+use Rattle.machine.specs.declared.look.Found.{Found}
 
 -- one record more, at position k, before those passed
 abbrev pub gathered : Name → ℕ → ℕ → ℕ → Carrier → Passed → Passed
@@ -28,4 +28,12 @@ passed s n p b = record {
   expected = howManyExpected s;
   taken = spotTaken s b;
   busy = someOpen s;
+}
+
+-- and the records that it found
+unfoldable pub foundIn : Tool → Name → ℕ → ℕ → Found
+foundIn t n p b = record {
+  passed = passed (stateOf t) n p b;
+  found = recordAt t (nameStands (stateOf t) n);
+  held = recordAt t (tieStands (stateOf t) p);
 }

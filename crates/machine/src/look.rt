@@ -1,12 +1,13 @@
 // What a row needs of the input and of the state, in one pass over the records.
 ghost use mathlib.Core.Path.{_≡_};
 ghost use Prim.Native.Nat.{_≤_, _+_};
-ghost use Rattle.rules.specs.State.{stateOf, portAt, recordAt};
+ghost use Rattle.rules.specs.State.{stateOf};
 ghost use Rattle.rules.specs.Held.{Held};
 ghost use Rattle.rules.specs.Seen.{inputOf, narrow, see};
-ghost use Rattle.machine.specs.Pass.{gathered, passed};
+ghost use Rattle.machine.specs.Pass.{gathered, foundIn};
 use records::carrier::Carrier;
 use records::choose::either;
+use records::choose::least;
 use records::choose::one_if;
 use records::choose::wide;
 use records::map::in_map;
@@ -14,10 +15,10 @@ use records::map::is_map;
 use records::name::Name;
 use records::name::in_bytes;
 use records::name::is_name;
-use records::port::Port;
+use rows::ask::either_carrier;
 use rules::row::Seen;
 use rules::tool::Tool;
-use soundness::parts::spot_of;
+use soundness::parts::port_in;
 
 // What the records passed so far show: where the name's record stands and that of the carrier tied to the port, how many
 // are expected, whether the buffer place is taken, whether some carrier is open.
@@ -29,28 +30,18 @@ pub struct Passed {
     pub busy: bool,
 }
 
+// The records found at the end of the pass: the name's, and the one tied to the port.
+pub struct Found {
+    pub passed: Passed,
+    pub found: Carrier,
+    pub held: Carrier,
+}
+
 // No port, place or value is as large as 255.
 pub fn narrow(n: u32) -> u8
     ensures { λ r. ⌜ r ≡ narrow n ⌝ }
 {
     if n < 255 { n as u8 } else { 255 }
-}
-
-pub fn port_at(t: Tool, p: u8) -> Port
-    ensures { λ r. ⌜ r ≡ portAt t p ⌝ }
-{
-    let i = spot_of(p);
-    if i < 4 { t.ports[i] } else { Port::none() }
-}
-
-pub fn record_at(t: Tool, k: usize) -> Carrier
-    ensures { λ r. ⌜ r ≡ recordAt t k ⌝ }
-{
-    if k < 36 {
-        t.carriers[k]
-    } else {
-        Carrier::none()
-    }
 }
 
 // One record more, at position k, before those passed.
@@ -72,9 +63,10 @@ fn gather(p: Passed, c: Carrier, name: Name, port: u8, value: u8, k: usize) -> P
     }
 }
 
-fn pass(t: Tool, name: Name, port: u8, value: u8) -> Passed
+// The one loop over the records. The records found are read here too: a tool that is passed on is copied.
+fn pass(t: Tool, name: Name, port: u8, value: u8) -> Found
     requires { ⌜ t .count ≤ 36 ⌝ }
-    ensures { λ r. ⌜ r ≡ passed (stateOf t) name port value ⌝ }
+    ensures { λ r. ⌜ r ≡ foundIn t name port value ⌝ }
 {
     let n = wide(t.count);
     let mut p = Passed {
@@ -90,7 +82,17 @@ fn pass(t: Tool, name: Name, port: u8, value: u8) -> Passed
         let c = t.carriers[k];
         p = gather(p, c, name, port, value, k);
     }
-    p
+    let i = least(p.stands, 35);
+    let j = least(p.holds, 35);
+    let a = t.carriers[i];
+    let b = t.carriers[j];
+    let found = either_carrier(p.stands < 36, a, Carrier::none());
+    let held = either_carrier(p.holds < 36, b, Carrier::none());
+    Found {
+        passed: p,
+        found,
+        held,
+    }
 }
 
 pub fn look(t: Tool, port: u32, value: u32, name: &[u8], codes: &[u8]) -> Seen
@@ -100,9 +102,12 @@ pub fn look(t: Tool, port: u32, value: u32, name: &[u8], codes: &[u8]) -> Seen
     let port = narrow(port);
     let value = narrow(value);
     let text = in_bytes(name);
-    let p = pass(t, text, port, value);
+    let f = pass(t, text, port, value);
+    let p = f.passed;
+    let found = f.found;
+    let held = f.held;
     let count = wide(t.count);
-    let found = record_at(t, p.stands);
+    let ports = t.ports;
     let map = in_map(codes);
     Seen {
         places: t.places,
@@ -116,14 +121,14 @@ pub fn look(t: Tool, port: u32, value: u32, name: &[u8], codes: &[u8]) -> Seen
         blank: name.len() == 0,
         map,
         mapped: is_map(codes),
-        here: port_at(t, port),
+        here: port_in(ports, port),
         stands: p.stands,
         known: p.stands < count,
         found,
-        home: port_at(t, found.port),
+        home: port_in(ports, found.port),
         holds: p.holds,
         tied: p.holds < count,
-        held: record_at(t, p.holds),
+        held,
         full: 16 <= p.expected,
         taken: p.taken,
         busy: p.busy,

@@ -1,10 +1,7 @@
 // What an effect touches, as reports.
 ghost use mathlib.Core.Path.{_≡_};
 ghost use Rattle.rules.specs.Reports.{noReports, reportIf, tieNumber};
-ghost use Rattle.rules.specs.State.{portAt, recordAt};
 ghost use Rattle.machine.specs.Told.{noted, noteAll, portTouched, recordTouched, touched};
-use crate::look::port_at;
-use crate::look::record_at;
 use records::carrier::Carrier;
 use records::choose::wide;
 use records::name::Name;
@@ -12,7 +9,6 @@ use records::port::Port;
 use rules::report::Report;
 use rules::report::Reports;
 use rules::row::Effect;
-use rules::tool::Tool;
 
 pub fn no_reports() -> Reports
     ensures { λ r. ⌜ r ≡ noReports ⌝ }
@@ -108,12 +104,10 @@ fn record_reports(
     note_if(a, old != new, model, 0, name, old, new)
 }
 
-pub fn told(t: Tool, e: Effect) -> Reports
-    ensures { λ r. ⌜ r ≡ noteAll noReports (touched (portAt t (e .port)) (recordAt t (e .goes)) (recordAt t (e .changes)) e) ⌝ }
+// The port x as it was, the record g that goes, and the record w that changes, as it was.
+pub fn told(e: Effect, x: Port, g: Carrier, w: Carrier) -> Reports
+    ensures { λ r. ⌜ r ≡ noteAll noReports (touched x g w e) ⌝ }
 {
-    let x = port_at(t, e.port);
-    let g = record_at(t, e.goes);
-    let w = record_at(t, e.changes);
     let c = e.next;
     let a = port_reports(no_reports(), e.port, x, e.becomes);
     let b = record_reports(a, 5, g.name, g.id, c.name, w.id, c.id);

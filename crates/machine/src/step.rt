@@ -8,10 +8,14 @@ use crate::apply::apply;
 use crate::look::look;
 use crate::report::no_reports;
 use crate::report::told;
+use records::carrier::Carrier;
+use records::choose::least;
+use rows::ask::either_carrier;
 use rows::numbered::answer_of;
 use rows::numbered::effect_of;
 use rules::report::Outcome;
 use rules::tool::Tool;
+use soundness::parts::port_in;
 use soundness::whole::sound;
 
 // For a layer above that has tested soundness itself: it is most of the time that a step takes.
@@ -23,8 +27,14 @@ pub fn step_sound(t: Tool, number: u32, port: u32, value: u32, name: &[u8], code
     let answer = answer_of(number, x);
     if answer == 0 {
         let e = effect_of(number, x);
+        let i = least(e.goes, 35);
+        let j = least(e.changes, 35);
+        let a = t.carriers[i];
+        let b = t.carriers[j];
+        let gone = either_carrier(e.goes < 36, a, Carrier::none());
+        let was = either_carrier(e.changes < 36, b, Carrier::none());
+        let reports = told(e, port_in(t.ports, e.port), gone, was);
         let tool = apply(t, e);
-        let reports = told(t, e);
         Outcome {
             tool,
             answer: 0,

@@ -1,9 +1,9 @@
 -- A name is 1 to 16 bytes, each 0x21 to 0x7E.
 use Prim.Native.Nat.{ℕ}
-use mathlib.Core.Bool.{Bool, true, false, not, _&&_, _||_}
+use mathlib.Core.Bool.{Bool, true, not, _&&_, _||_}
 use mathlib.Core.List.{List, [], _∷_}
 use lib.ListN.{length, replicate}
-use lib.Dec.{eqb, leb}
+use lib.Dec.{eqb}
 use Rattle.lists.specs.Lists.{between, every, fill, sameList}
 use Rattle.records.specs.declared.name.Name.{Name}
 

@@ -1,14 +1,12 @@
 -- A row that accepts: none of its grounds applies.
-use Prim.Native.Nat.{ℕ}
 use native.Mathlib.Omega.{arith}
-use mathlib.Core.Path.{_≡_, refl, sym, _∙_}
+use mathlib.Core.Path.{_≡_, refl}
 use mathlib.Core.Bool.{Bool, true, false, _&&_}
 use mathlib.Core.List.{List, [], _∷_}
 use lib.Dec.{leb}
 use borrow.Author.Tests.{leb-true}
 use Rattle.lists.proofs.Bools.{and-l, and-r}
 use Rattle.rules.specs.Row.{Ground, when, unless, judge}
-use Rattle.rules.proofs.Lowest.{risingFrom}
 
 abbrev pub Clear : List Ground → Type 0
 Clear [] = Unit {0}

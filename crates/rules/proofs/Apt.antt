@@ -1,33 +1,31 @@
 -- What holds of each row's effect where the row accepts: a record keeps its name, a new one's name is new, and so on.
 use Prim.Native.Nat.{ℕ, _-_, _≤_, _<_}
 use native.Mathlib.Omega.{arith}
-use mathlib.Core.Path.{_≡_, refl, ap, sym, _∙_}
+use mathlib.Core.Path.{_≡_, refl, sym}
 use mathlib.Core.Logic.{_≢_}
-use mathlib.Core.Bool.{Bool, true, false, not, cond, _&&_, _||_}
-use mathlib.Core.List.{List, [], _∷_}
+use mathlib.Core.Bool.{Bool, true, false, not, cond, _||_}
 use lib.ListN.{length, getD, List·getD-eq-default}
 use lib.Dec.{eqb, leb, ltb}
 use borrow.Author.Tests.{eqb-true, eqb-false, leb-true, ltb-true, ltb-false, lt-ltb, le-ltb, ne-eqb}
 use Rattle.lists.proofs.Bools.{clash, and-l, and-r, not-true, not-false, or-other}
 use Rattle.lists.proofs.Tests.{nowhere}
-use Rattle.records.specs.declared.name.Name.{Name}
 use Rattle.records.specs.declared.port.Port.{Port}
 use Rattle.records.specs.declared.carrier.Carrier.{Carrier}
 use Rattle.records.specs.Names.{sameName}
-use Rattle.records.specs.Ports.{noPort, tiedTo, toUnload}
-use Rattle.records.specs.Carriers.{noCarrier, newCarrier, atPort, idOk, untied, placedAt, withId, proceeded, judgedNo, cancelledBy}
+use Rattle.records.specs.Ports.{noPort, toUnload}
+use Rattle.records.specs.Carriers.{noCarrier, atPort, untied, placedAt, withId, proceeded, judgedNo}
 use Rattle.rules.specs.declared.row.Seen.{Seen}
 use Rattle.rules.specs.declared.row.Effect.{Effect}
 use Rattle.rules.specs.State.{State, spotOf, portOf, recordOf}
 use Rattle.rules.specs.Sound.{sound}
-use Rattle.rules.specs.Seen.{Input, narrow, isNamed, nameStands, tieStands, see}
-use Rattle.rules.specs.Row.{Row, judge, onPort, onPortAndGone, onRecord, onBoth, placed, unknownPod, foundOrNew}
-use Rattle.rules.specs.Booking.{bind, meant, meantPort, meantStands, onePair, cancelBind, carrierNotification, cancelCarrierNotification}
-use Rattle.rules.specs.Verdict.{takesUnknownPod, canProceed, proceedWithCarrier, canCancel, cancelAt, cancelPort, failed, cancelCarrier}
-use Rattle.rules.specs.Buffer.{canComeOut, carrierOut, canGoBack, carrierIn, canMoveIn, verifiedHere, moveIn}
-use Rattle.rules.specs.Service.{changeAccess, changeServiceStatus, reserveAtPort, cancelReservationAtPort, goesOut, comesIn}
+use Rattle.rules.specs.Seen.{Input, isNamed, nameStands, see}
+use Rattle.rules.specs.Row.{Row, judge, onPortAndGone, onBoth, placed, unknownPod, foundOrNew}
+use Rattle.rules.specs.Booking.{bind, meant, meantStands, onePair, cancelBind, carrierNotification, cancelCarrierNotification}
+use Rattle.rules.specs.Verdict.{takesUnknownPod, proceedWithCarrier, cancelAt, cancelPort, failed, cancelCarrier}
+use Rattle.rules.specs.Buffer.{carrierOut, carrierIn, moveIn}
+use Rattle.rules.specs.Service.{changeAccess, changeServiceStatus, reserveAtPort, cancelReservationAtPort}
 use Rattle.rules.specs.Transfer.{loadStart, loadDone, loadFail, unloadStart, unloadDone, unloadFail}
-use Rattle.rules.specs.Reading.{readable, elsewhere, matching, displaced, idRead, idReadFailed}
+use Rattle.rules.specs.Reading.{displaced, idRead, idReadFailed}
 use Rattle.rules.specs.Opening.{openRow, slotMap, accessStart, accessEnd, leavesPort, closeRow}
 use Rattle.rules.specs.Rows.{rowOf}
 use Rattle.rules.proofs.Accepts.{clear}

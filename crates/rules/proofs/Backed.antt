@@ -12,7 +12,7 @@ use Rattle.records.specs.declared.carrier.Carrier.{Carrier}
 use Rattle.records.specs.Names.{inBytes, sameName}
 use Rattle.records.specs.Carriers.{inBuffer, isOpen, isCancelled, idOk, slotWaits, slotOk, inAccess}
 use Rattle.rules.specs.State.{State}
-use Rattle.rules.specs.Seen.{Input, see}
+use Rattle.rules.specs.Seen.{Input}
 use Rattle.rules.specs.Outcome.{answerIn}
 use Rattle.rules.specs.History.{Event, done, announcedThere, verifies, verified, wasCancelled, wasMapped, released}
 

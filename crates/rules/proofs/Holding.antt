@@ -1,12 +1,11 @@
 -- What a tool that holds a state shows of it.
 use Prim.Native.Nat.{ℕ, _≤_}
 use native.Mathlib.Omega.{arith}
-use mathlib.Core.Path.{_≡_, refl, ap, sym, _∙_}
-use mathlib.Core.Bool.{Bool, true, false, _&&_}
+use mathlib.Core.Path.{_≡_, ap, sym, _∙_}
+use mathlib.Core.Bool.{true}
 use mathlib.Core.List.{List}
 use lib.ListN.{length, getD, take, drop, replicate}
 use lib.Seq.{length-take-le}
-use lib.Dec.{eqb, leb}
 use borrow.Author.Tests.{eqb-true, leb-true}
 use Rattle.lists.specs.Lists.{every, fill}
 use Rattle.lists.proofs.Bools.{and-l, and-r}
@@ -19,7 +18,7 @@ use Rattle.records.specs.Names.{noName}
 use Rattle.records.specs.Ports.{noPort}
 use Rattle.records.specs.Carriers.{noCarrier}
 use Rattle.rules.specs.declared.tool.Tool.{Tool}
-use Rattle.rules.specs.State.{State, stateOf, spotOf, portOf, recordOf, portAt, recordAt}
+use Rattle.rules.specs.State.{stateOf, spotOf, portOf, recordOf, portAt, recordAt}
 use Rattle.rules.specs.Sound.{zeroPort, zeroCarrier, unusedZero, sound, soundTool}
 use Rattle.rules.specs.Held.{Held}
 use Rattle.rules.proofs.Names.{name-is}

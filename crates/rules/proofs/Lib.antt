@@ -6,6 +6,7 @@ pub mod Holding
 pub mod SoundFacts
 pub mod TwelveRows
 pub mod Reachable
+pub mod Allowed
 pub mod Accepts
 pub mod Apt
 pub mod SoundParts

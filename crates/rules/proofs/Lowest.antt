@@ -1,11 +1,11 @@
 -- Each row's grounds stand lowest number first, so that the first that applies is the lowest that applies.
 use Prim.Native.Nat.{ℕ, _≤_}
 use native.Mathlib.Omega.{arith}
-use mathlib.Core.Path.{_≡_, refl, sym, ap, _∙_}
-use mathlib.Core.Bool.{Bool, true, false, not, cond, _&&_}
+use mathlib.Core.Path.{_≡_, refl, sym, _∙_}
+use mathlib.Core.Bool.{Bool, true, false, cond, _&&_}
 use mathlib.Core.List.{List, [], _∷_}
 use lib.Dec.{eqb, leb}
-use borrow.Author.Tests.{eqb-true, eqb-false, leb-true, eq-eqb, ne-eqb, le-leb}
+use borrow.Author.Tests.{eqb-false, leb-true, ne-eqb, le-leb}
 use Rattle.lists.proofs.Bools.{and-l, and-r}
 use Rattle.rules.specs.declared.row.Seen.{Seen}
 use Rattle.rules.specs.Row.{Ground, when, unless, given, lower, lowest, judge, Row}

@@ -2,23 +2,20 @@
 use Prim.Native.Nat.{ℕ, _≤_, _<_}
 use native.Mathlib.Omega.{arith}
 use mathlib.Core.Path.{_≡_, refl, ap, sym, subst, _∙_}
-use mathlib.Core.Logic.{_≢_}
-use mathlib.Core.Bool.{Bool, true, false, not, cond, _&&_, _||_}
-use lib.ListN.{length, getD}
+use mathlib.Core.Bool.{Bool, true, false, not, cond, _||_}
+use lib.ListN.{length}
 use lib.Dec.{eqb, leb, ltb}
 use borrow.Author.Tests.{eqb-true, eq-eqb, leb-true, le-leb, lt-ltb, ltb-true, ltb-false}
-use Rattle.lists.specs.Lists.{any}
-use Rattle.lists.proofs.Bools.{clash, and-l, and-r, and-i, or-l, or-r, or-other, not-true}
+use Rattle.lists.proofs.Bools.{clash, and-l, and-r, and-i, or-l, or-r, not-true}
 use Rattle.lists.proofs.Tests.{any-here, nowhere, where-holds}
-use Rattle.records.specs.declared.name.Name.{Name}
 use Rattle.records.specs.Names.{noName, sameName}
 use Rattle.records.specs.Carriers.{noCarrier}
 use Rattle.rules.specs.declared.row.Seen.{Seen}
 use Rattle.rules.specs.State.{State, portOf, recordOf}
 use Rattle.rules.specs.Sound.{sound}
-use Rattle.rules.specs.Seen.{Input, narrow, isNamed, isTiedTo, nameStands, tieStands, see}
+use Rattle.rules.specs.Seen.{Input, narrow, isNamed, isTiedTo, tieStands, see}
 use Rattle.rules.specs.Reading.{matching}
-use Rattle.rules.specs.History.{Event, isLive, tieRead, announcedThere}
+use Rattle.rules.specs.History.{Event, isLive, announcedThere}
 use Rattle.rules.proofs.Names.{name-same}
 use Rattle.rules.proofs.SoundFacts.{few-ports}
 use Rattle.rules.proofs.Orderly.{orderly}

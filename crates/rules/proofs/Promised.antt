@@ -1,9 +1,8 @@
 -- The promise holds of every run from every valid set-up.
 use Prim.Native.Nat.{ℕ, _≤_}
-use mathlib.Core.Path.{_≡_, refl, ap, sym, subst, _∙_}
+use mathlib.Core.Path.{_≡_, refl, _∙_}
 use mathlib.Core.Bool.{true}
 use mathlib.Core.List.{List, [], _∷_, reverse, reverseAux}
-use Rattle.rules.specs.declared.tool.Tool.{Tool}
 use Rattle.rules.specs.State.{State, start, stateOf, setUp}
 use Rattle.rules.specs.Sound.{soundTool}
 use Rattle.rules.specs.Seen.{Input}

@@ -1,12 +1,12 @@
 -- What rows and reports need of a sound state.
 use Prim.Native.Nat.{ℕ, _≤_, _<_}
 use native.Mathlib.Omega.{arith}
-use mathlib.Core.Path.{_≡_, refl, sym, _∙_}
+use mathlib.Core.Path.{_≡_, refl, _∙_}
 use mathlib.Core.Logic.{_≢_}
-use mathlib.Core.Bool.{Bool, true, false, _&&_, not}
+use mathlib.Core.Bool.{Bool, true, false, not}
 use mathlib.Core.List.{List}
 use lib.ListN.{length, getD, List·getD-eq-default}
-use lib.Dec.{leb, ltb}
+use lib.Dec.{ltb}
 use borrow.Author.Tests.{eqb-false, leb-true, ltb-true, ltb-false}
 use Rattle.lists.specs.Lists.{every, everyTwo}
 use Rattle.lists.proofs.Bools.{and-l, and-r, not-true, or-other}

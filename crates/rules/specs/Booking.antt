@@ -1,12 +1,11 @@
 -- Rows 1 to 4: a carrier is announced, and the announcement is taken back.
-use Prim.Native.Nat.{ℕ, _+_}
-use mathlib.Core.Bool.{Bool, true, false, not, cond, _&&_, _||_}
-use mathlib.Core.List.{List, [], _∷_}
-use lib.Dec.{eqb, leb}
+use Prim.Native.Nat.{ℕ}
+use mathlib.Core.Bool.{Bool, true, not, cond, _&&_, _||_}
+use mathlib.Core.List.{[], _∷_}
 use Rattle.records.specs.declared.port.Port.{Port}
 use Rattle.records.specs.declared.carrier.Carrier.{Carrier}
 use Rattle.records.specs.Ports.{noPort, readyToLoad, idle, boundTo, unbound}
-use Rattle.records.specs.Carriers.{noCarrier, newCarrier, expected, untied}
+use Rattle.records.specs.Carriers.{newCarrier, expected, untied}
 use Rattle.rules.specs.declared.row.Seen.{Seen}
 use Rattle.rules.specs.Row.{Row, when, unless, onPortAndGone, isPortOrNone, reservedOrTied, otherPort}
 

@@ -1,8 +1,6 @@
 -- Rows 7, 8 and 18: out of the buffer, back, and in.
-use Prim.Native.Nat.{ℕ, _+_}
-use mathlib.Core.Bool.{Bool, true, false, not, cond, _&&_, _||_}
-use mathlib.Core.List.{List, [], _∷_}
-use lib.Dec.{eqb, leb}
+use mathlib.Core.Bool.{Bool, not, _&&_}
+use mathlib.Core.List.{[], _∷_}
 use Rattle.records.specs.Ports.{readyToLoad, readyToUnload, blocked, idle, hasPod, handedOut, toBlocked, emptied}
 use Rattle.records.specs.Carriers.{atPort, inBuffer, isOpen, cameOut, idOk, inAccess, takenOut, takenBack, movedIn}
 use Rattle.rules.specs.declared.row.Seen.{Seen}

@@ -1,7 +1,6 @@
 -- Rows 19 to 23: a carrier is opened, mapped, accessed and closed.
-use Prim.Native.Nat.{ℕ, _+_}
-use mathlib.Core.Bool.{Bool, true, false, not, cond, _&&_, _||_}
-use mathlib.Core.List.{List, [], _∷_}
+use mathlib.Core.Bool.{Bool, not, cond, _&&_, _||_}
+use mathlib.Core.List.{[], _∷_}
 use lib.Dec.{eqb, leb}
 use Rattle.records.specs.Ports.{noPort, idle, blocked, toUnload}
 use Rattle.records.specs.Carriers.{atPort, inBuffer, isOpen, isCancelled, idOk, slotNotRead, slotOk, slotFailed, notAccessed, inAccess, accessEnded, withOpened, withMap, withAccessing}

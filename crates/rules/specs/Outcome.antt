@@ -1,10 +1,8 @@
 -- What an input gives: the answer, the state that follows, and the reports.
 use Prim.Native.Nat.{ℕ}
 use mathlib.Core.Bool.{cond}
-use mathlib.Core.List.{List, []}
 use lib.Dec.{eqb}
 use Rattle.rules.specs.declared.tool.Tool.{Tool}
-use Rattle.rules.specs.declared.report.Report.{Report}
 use Rattle.rules.specs.declared.report.Outcome.{Outcome}
 use Rattle.rules.specs.State.{State, stateOf, inTool}
 use Rattle.rules.specs.Sound.{soundTool}

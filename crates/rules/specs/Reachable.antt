@@ -1,9 +1,10 @@
 -- For each row and each answer that document 01 allows for it, a run from set-up whose last input is given that answer.
 use Prim.Native.Nat.{ℕ, zero, suc, _+_}
-use mathlib.Core.Bool.{Bool, true, _&&_}
+use mathlib.Core.Bool.{Bool, true, _&&_, _||_}
 use mathlib.Core.List.{List, [], _∷_, _++_, map}
 use lib.ListN.{replicate}
 use lib.Dec.{eqb}
+use Rattle.lists.specs.Lists.{any}
 use Rattle.rules.specs.State.{State, start, setUp}
 use Rattle.rules.specs.Seen.{Input, inputOf}
 use Rattle.rules.specs.Outcome.{answerIn, stateAfter}
@@ -307,3 +308,7 @@ allowed =
     ++ answers 24 (0 ∷ 1 ∷ 5 ∷ [])
     ++ answers 25 (0 ∷ 1 ∷ 5 ∷ [])
     ++ answers 26 (0 ∷ 1 ∷ 5 ∷ [])
+
+-- a row may give an answer: 1, or what document 01 allows for it
+unfoldable pub mayAnswer : ℕ → ℕ → Bool
+mayAnswer row n = eqb n 1 || any (λ p. eqb (p .row) row && eqb (p .answer) n) allowed

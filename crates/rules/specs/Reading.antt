@@ -1,12 +1,11 @@
 -- Rows 16 and 17: the tag of a pod is read, or can't be.
-use Prim.Native.Nat.{ℕ, _+_}
-use mathlib.Core.Bool.{Bool, true, false, not, cond, _&&_, _||_}
-use mathlib.Core.List.{List, [], _∷_}
-use lib.Dec.{eqb, leb}
+use Prim.Native.Nat.{ℕ}
+use mathlib.Core.Bool.{Bool, not, cond, _&&_, _||_}
+use mathlib.Core.List.{[], _∷_}
+use lib.Dec.{eqb}
 use Rattle.records.specs.declared.port.Port.{Port}
-use Rattle.records.specs.declared.carrier.Carrier.{Carrier}
 use Rattle.records.specs.Ports.{hasPod, idle, tagUnread, tagRead, tagNotRead}
-use Rattle.records.specs.Carriers.{noCarrier, expected, untied, placedAt, withId}
+use Rattle.records.specs.Carriers.{noCarrier, untied, placedAt, withId}
 use Rattle.rules.specs.declared.row.Seen.{Seen}
 use Rattle.rules.specs.Row.{Row, when, unless, onBoth, otherPort, placed, foundOrNew}
 

@@ -1,9 +1,7 @@
 -- Rows 9 to 12: access mode, service status and reservations of a port.
-use Prim.Native.Nat.{ℕ, _+_}
-use mathlib.Core.Bool.{Bool, true, false, not, cond, _&&_, _||_}
-use mathlib.Core.List.{List, [], _∷_}
-use lib.Dec.{eqb, leb}
-use Rattle.records.specs.declared.port.Port.{Port}
+use mathlib.Core.Bool.{Bool, not, cond, _&&_}
+use mathlib.Core.List.{[], _∷_}
+use lib.Dec.{eqb}
 use Rattle.records.specs.Ports.{outOfService, readyToLoad, reserved, idle, withAccess, withTransfer, withReserved}
 use Rattle.rules.specs.declared.row.Seen.{Seen}
 use Rattle.rules.specs.Row.{Row, when, unless, onPort, isChoice, reservedOrTied}

@@ -1,7 +1,6 @@
 -- When a state is sound, in document 01's order, and when a tool holds a sound state.
 use Prim.Native.Nat.{ℕ}
 use mathlib.Core.Bool.{Bool, not, _&&_, _||_}
-use mathlib.Core.List.{List}
 use lib.ListN.{length, drop, replicate}
 use lib.Dec.{eqb, leb}
 use Rattle.lists.specs.Lists.{every, everyTwo, any, howMany, between, sameList}

@@ -1,6 +1,6 @@
 -- The state of a tool, and the tool that holds it.
 use Prim.Native.Nat.{ℕ, _-_}
-use mathlib.Core.Bool.{Bool, cond, _&&_}
+use mathlib.Core.Bool.{cond, _&&_}
 use mathlib.Core.List.{List, []}
 use lib.ListN.{length, getD, take, replicate}
 use lib.Dec.{eqb, leb}

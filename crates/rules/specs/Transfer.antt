@@ -1,11 +1,8 @@
 -- Rows 13 to 15 and 24 to 26: a pod is loaded at a port, or unloaded from it.
-use Prim.Native.Nat.{ℕ, _+_}
-use mathlib.Core.Bool.{Bool, true, false, not, cond, _&&_, _||_}
-use mathlib.Core.List.{List, [], _∷_}
-use lib.Dec.{eqb, leb}
+use mathlib.Core.List.{[], _∷_}
 use Rattle.records.specs.Ports.{readyToLoad, readyToUnload, loading, unloading, startLoad, loaded, notLoaded, startUnload, emptied, notUnloaded}
 use Rattle.rules.specs.declared.row.Seen.{Seen}
-use Rattle.rules.specs.Row.{Row, when, unless, onPort, onPortAndGone}
+use Rattle.rules.specs.Row.{Row, unless, onPort, onPortAndGone}
 
 -- 13. LoadStart(port). 5 unless READY TO LOAD. BLOCKED, loading, reservation ends, tie stays.
 abbrev pub loadStart : Seen → Row

@@ -1,14 +1,14 @@
 -- Rows 5 and 6: the host says yes or no to a carrier.
-use Prim.Native.Nat.{ℕ, _+_}
-use mathlib.Core.Bool.{Bool, true, false, not, cond, _&&_, _||_}
-use mathlib.Core.List.{List, [], _∷_}
-use lib.Dec.{eqb, leb}
+use Prim.Native.Nat.{ℕ}
+use mathlib.Core.Bool.{Bool, not, cond, _&&_, _||_}
+use mathlib.Core.List.{[], _∷_}
+use lib.Dec.{eqb}
 use Rattle.records.specs.declared.port.Port.{Port}
 use Rattle.records.specs.declared.carrier.Carrier.{Carrier}
 use Rattle.records.specs.Ports.{noPort, readyToUnload, idle, tiedTo, toUnload}
-use Rattle.records.specs.Carriers.{noCarrier, atPort, untied, idWaits, idOk, slotWaits, inAccess, placedAt, withId, proceeded, judgedNo, cancelledBy}
+use Rattle.records.specs.Carriers.{atPort, untied, idWaits, idOk, slotWaits, inAccess, placedAt, withId, proceeded, judgedNo, cancelledBy}
 use Rattle.rules.specs.declared.row.Seen.{Seen}
-use Rattle.rules.specs.Row.{Row, when, unless, isPortOrNone, otherPort, placed, unknownPod, foundOrNew}
+use Rattle.rules.specs.Row.{Row, unless, isPortOrNone, otherPort, placed, unknownPod, foundOrNew}
 
 -- Expected: it is untied and an unknown pod is at the port given.
 unfoldable pub takesUnknownPod : Seen → Bool

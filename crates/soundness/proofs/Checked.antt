@@ -1,8 +1,7 @@
 -- The code's tests are the definition's, in another order.
-use Prim.Native.Nat.{ℕ}
-use mathlib.Core.Path.{_≡_, refl, ap, sym, _∙_}
-use mathlib.Core.Bool.{Bool, true, false, _&&_}
-use mathlib.Core.List.{List, [], _∷_}
+use mathlib.Core.Path.{_≡_, refl}
+use mathlib.Core.Bool.{Bool, true, _&&_}
+use mathlib.Core.List.{List, _∷_}
 use lib.ListN.{length}
 use lib.Dec.{leb}
 use Rattle.lists.specs.Lists.{every, everyTwo, any, howMany, between}
@@ -12,7 +11,6 @@ use Rattle.records.specs.declared.carrier.Carrier.{Carrier}
 use Rattle.records.specs.Carriers.{expected}
 use Rattle.rules.specs.State.{State, portOf}
 use Rattle.rules.specs.Sound.{portInRange, portAgrees, carrierInRange, tieKept, placeAgrees, openAgrees, otherName, otherSpot, portTieHeld, inRange, tiesAgree, fewExpected, sound}
-use Rattle.soundness.specs.declared.audit.Audit.{Audit}
 use Rattle.soundness.specs.Audit.{portOk, carrierOk, carrierOkIn, apart, audited, audits, checked}
 
 pub audits-more : (s : State) (c : Carrier) (l : List Carrier)

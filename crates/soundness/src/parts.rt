@@ -1,13 +1,11 @@
 // One port, one carrier, two carriers: is each as it should be?
 ghost use mathlib.Core.Path.{_≡_};
-ghost use Prim.Native.Nat.{_≤_, _+_};
-ghost use mathlib.Core.Bool.{cond};
 ghost use lib.ListN.{getD, replicate};
 ghost use Rattle.lists.specs.Lists.{every, sameList};
 ghost use Rattle.records.specs.Ports.{noPort};
 ghost use Rattle.records.specs.Maps.{isCode};
 ghost use Rattle.rules.specs.State.{spotOf};
-ghost use Rattle.rules.specs.Sound.{portInRange, portAgrees, spotInRange, statusInRange, carrierInRange, tieKept, tieHeld, placeAgrees, openAgrees, otherName, otherSpot, zeroPort, zeroCarrier};
+ghost use Rattle.rules.specs.Sound.{portInRange, portAgrees, spotInRange, statusInRange, carrierInRange, tieKept, tieHeld, placeAgrees, openAgrees, zeroPort, zeroCarrier};
 ghost use Rattle.soundness.specs.Audit.{portOk, carrierOk, apart};
 use records::carrier::Carrier;
 use records::name::Name;

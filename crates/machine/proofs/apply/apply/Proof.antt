@@ -1,6 +1,6 @@
 use borrow.Author.Needs.{needs}
 use native.Mathlib.Omega.{arith}
-use mathlib.Core.Path.{_≡_, ap, _∙_}
+use mathlib.Core.Path.{ap, _∙_}
 use Rattle.machine.proofs.Bridge.{count-withPort, count-withRecord}
 use Rattle.machine.proofs.apply.apply.Statement.{statement}
 use Rattle.machine.proofs.apply.apply.Tie as tie

@@ -7,7 +7,6 @@ returns : tie.Need-returns
 unfolding touched
 returns c =
     let a = c .before .before .before in
-    let w = a .before .before .before in
     simp noteAll-append
     (rw (
       c .record-reports3 .ensures,
@@ -15,12 +14,7 @@ returns c =
       c .before .before .record-reports .ensures,
       a .port-reports .ensures,
       a .before .no-reports .ensures,
-      w .record-at2 .ensures,
-      w .before .record-at .ensures,
-      w .before .before .port-at .ensures,
     ))
 
 pub told-spec : {M : Type 1} → statement M
-told-spec =
-    tie.close
-    (tie.spec (λ c κs. tt) (λ c κs. tt) (λ c κs. tt) (λ c κs. tt) (λ c κs. tt) (λ c κs. tt) (λ c κs. tt) (λ c κs. tt) returns)
+told-spec = tie.close (tie.spec (λ c κs. tt) (λ c κs. tt) (λ c κs. tt) (λ c κs. tt) (λ c κs. tt) returns)

@@ -2,7 +2,7 @@
 use borrow.Author.Needs.{needs}
 use native.Mathlib.Omega.{arith}
 use Prim.Native.Nat.{_≤_, _-_}
-use mathlib.Core.Path.{_≡_, sym, _∙_}
+use mathlib.Core.Path.{_≡_}
 use lib.ListN.{replicate}
 use Rattle.lists.specs.Lists.{fill}
 use Rattle.lists.proofs.Tables.{fill-none, fill-repeat}

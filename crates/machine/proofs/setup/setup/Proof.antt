@@ -3,7 +3,6 @@ use borrow.Author.Tests.{le-leb, lt-leb}
 use native.Mathlib.Omega.{arith}
 use lib.ListN.{replicate}
 use lib.Seq.{take-all}
-use Rattle.lists.specs.Lists.{fill}
 use Rattle.lists.proofs.Tables.{fill-none, length-repeat}
 use Rattle.records.specs.Ports.{newPort}
 use Rattle.records.specs.Carriers.{noCarrier}

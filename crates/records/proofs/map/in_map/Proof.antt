@@ -2,11 +2,11 @@
 use borrow.Author.Needs.{needs}
 use native.Mathlib.Omega.{arith}
 use Prim.Native.Nat.{_≤_, _-_}
-use mathlib.Core.Path.{_≡_, refl, sym, _∙_}
+use mathlib.Core.Path.{_≡_}
 use mathlib.Core.Logic.{⊎-elim}
-use lib.ListN.{length, take}
+use lib.ListN.{take}
 use Rattle.lists.specs.Lists.{fill}
-use Rattle.lists.proofs.Tables.{fill-none, fill-more, fill-past, fill-whole, length-fill}
+use Rattle.lists.proofs.Tables.{fill-none, fill-more, fill-past, fill-whole}
 use Rattle.records.specs.Maps.{inMap}
 use Rattle.records.proofs.map.in_map.Statement.{statement}
 use Rattle.records.proofs.map.in_map.Tie as tie

@@ -1,14 +1,14 @@
 use borrow.Author.Needs.{needs}
 use native.Mathlib.Omega.{arith}
-use Prim.Native.Nat.{ℕ, _≤_, _<_, _+_, _-_}
-use mathlib.Core.Path.{_≡_, refl, sym, ap, _∙_}
+use Prim.Native.Nat.{_≤_, _<_, _+_, _-_}
+use mathlib.Core.Path.{_≡_, refl, sym, _∙_}
 use lib.Dec.{ltb}
 use borrow.Author.Tests.{ltb-true}
 use lib.ListN.{length, getD, drop, take, length-map}
 use Rattle.lists.specs.Lists.{every, everyTwo, howMany, any}
 use Rattle.lists.proofs.Bools.{and-r}
 use Rattle.lists.proofs.Loops.{back-in, ended-in, stopped}
-use Rattle.rules.specs.State.{stateOf, portOf, portAt}
+use Rattle.rules.specs.State.{stateOf, portAt}
 use Rattle.rules.specs.Held.{Held}
 use Rattle.rules.proofs.Holding.{used-held, port-held}
 use Rattle.rules.proofs.Past.{pastCarrier}

@@ -1,6 +1,5 @@
 -- The code's tests, by what its callees ensure; their order is `checked-sound`'s matter.
 use borrow.Author.Needs.{needs}
-use mathlib.Core.Path.{_≡_, sym, _∙_}
 use Rattle.rules.specs.State.{stateOf, portAt}
 use Rattle.rules.specs.Held.{Held}
 use Rattle.rules.proofs.Holding.{used-held, port-held}

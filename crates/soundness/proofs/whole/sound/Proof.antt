@@ -1,7 +1,6 @@
 use borrow.Author.Needs.{needs}
-use native.Mathlib.Omega.{arith}
-use mathlib.Core.Path.{_≡_, sym, _∙_}
-use lib.ListN.{length, length-map}
+use mathlib.Core.Path.{sym, _∙_}
+use lib.ListN.{length-map}
 use borrow.Author.Tests.{le-leb, lt-leb}
 use Rattle.lists.proofs.Bools.{and-l, and-r}
 use Rattle.rules.specs.Sound.{unusedZero, soundTool}

@@ -2,7 +2,7 @@
 use borrow.Author.Needs.{needs}
 use native.Mathlib.Omega.{arith}
 use Prim.Native.Nat.{_≤_}
-use mathlib.Core.Path.{_≡_, refl, sym, _∙_}
+use mathlib.Core.Path.{_≡_, sym, _∙_}
 use lib.ListN.{length, drop, length-map}
 use Rattle.lists.proofs.Loops.{back, ended}
 use Rattle.records.specs.Names.{zeroEnded, headOr0, holdsName}
