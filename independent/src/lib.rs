@@ -1,0 +1,19 @@
+//! Ports, pods and buffer of a carrier tool: an independent implementation of document 01.
+//!
+//! A [`Tool`] is plain bytes. [`setup`] makes one, [`step`] gives it an input and answers with a
+//! number: 0 for accepted, 1 to 8 for the reason of a refusal. A refusal changes nothing.
+
+#![cfg_attr(not(feature = "std"), no_std)]
+#![deny(unsafe_op_in_unsafe_fn)]
+
+mod report;
+mod rows;
+mod sound;
+mod state;
+
+#[cfg(feature = "std")]
+pub mod gen;
+
+pub use rows::{step, step_known_sound};
+pub use sound::sound;
+pub use state::*;
