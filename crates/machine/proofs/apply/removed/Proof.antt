@@ -50,5 +50,6 @@ returns-2 c = rw (← c .before .wide .ensures, le-ltb _ _ (c .if1 .left))
 pub removed-spec : {M : Type 1} → statement M
 removed-spec =
     tie.close
-    (tie.spec Inv-loop μ-loop (λ c κs. tt) (λ c. search needs) loop-holds (λ c. search needs) (λ c. search needs) (λ c. search needs) (λ c. search needs) (λ c. search needs) (λ c. search needs) (λ c. search needs)
+    (tie.spec Inv-loop μ-loop (λ c κs. tt) (λ c. search needs) loop-holds (λ c. search needs) (λ c. search needs) (λ c. search needs)
+    (λ c. search needs) (λ c. search needs) (λ c. search needs) (λ c. search needs)
     loop-again (λ c κs. tt) (λ c. search needs) (λ c. search needs) returns returns-2)

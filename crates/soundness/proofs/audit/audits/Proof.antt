@@ -19,7 +19,8 @@ use Rattle.soundness.proofs.audit.audits.Tie as tie
 
 abbrev Inv-loop2 : tie.InvT-loop2
 Inv-loop2 t n ports a k c alone₀ j₀ alone j =
-    (length (t .carriers) ≡ 36) × (t .count ≤ 36) × (n ≡ t .count) × (j ≤ t .count) × (k + 1 ≤ j) × (alone ≡ every (apart c) (drop j (take (t .count) (t .carriers))))
+    (length (t .carriers) ≡ 36) × (t .count ≤ 36) × (n ≡ t .count) × (j ≤ t .count) × (k + 1 ≤ j)
+    × (alone ≡ every (apart c) (drop j (take (t .count) (t .carriers))))
 
 abbrev μ-loop2 : tie.MeasureT-loop2
 μ-loop2 t n ports a k c alone₀ j₀ alone j = j
@@ -38,8 +39,15 @@ loop-holds c =
     let t = c .before .before .args .t1 in
     let h : Held t = search needs in
     let f = h .fewCarriers in
-    let l : length (t .carriers) ≡ 36 = sym (length-map (t .carriers) _) ∙ c .before .before .good .0 .1 .1 .1 .1 .1 .1 .0 .1 .0 .1 in
-    (l, h, c .before .wide .ensures, omega (arith, c .before .wide .ensures), refl, omega (arith, c .before .wide .ensures), rw (c .before .wide .ensures, ended-in (t .carriers) (t .count) (omega arith)))
+    let l : length (t .carriers) ≡ 36 = sym (length-map (t .carriers) _) ∙ c .before .before .good .0 .1 .1 .1 .1 .1 .1 .0 .1 .0 .1 in (
+      l,
+      h,
+      c .before .wide .ensures,
+      omega (arith, c .before .wide .ensures),
+      refl,
+      omega (arith, c .before .wide .ensures),
+      rw (c .before .wide .ensures, ended-in (t .carriers) (t .count) (omega arith)),
+    )
 
 loop2-holds : tie.Need-loop2-holds Inv-loop2 μ-loop2 Inv-loop μ-loop
 unfolding every
@@ -51,7 +59,9 @@ loop2-holds c =
 
 -- the inner loop goes on: nothing failed, and there is more
 within : (c : tie.In-loop2 Inv-loop2 μ-loop2 Inv-loop μ-loop) → c .before .before .before .before .loop .k - 1 + 1 < c .before .loop2 .j
-within c = ltb-true (c .before .before .before .before .loop .k - 1 + 1) (c .before .loop2 .j) (and-r (c .before .loop2 .alone) (ltb (c .before .before .before .before .loop .k - 1 + 1) (c .before .loop2 .j)) (c .loop2-test .taken))
+within c =
+    let k = c .before .before .before .before .loop .k - 1 + 1 in
+    ltb-true k (c .before .loop2 .j) (and-r (c .before .loop2 .alone) (ltb k (c .before .loop2 .j)) (c .loop2-test .taken))
 
 loop2-again : tie.Need-loop2-again Inv-loop2 μ-loop2 Inv-loop μ-loop
 unfolding every
@@ -76,7 +86,9 @@ loop-again c =
     let k = o .loop .k in
     let e = back-in (t .carriers) (t .count) k pastCarrier (omega arith) (omega arith) (omega arith) in
     let z : k - 1 + 1 ≡ k = omega arith in
-    let f : b .loop2 .alone ≡ every (apart (getD (t .carriers) (k - 1) pastCarrier)) (drop k (take (t .count) (t .carriers))) = rw z at (stopped (apart (getD (t .carriers) (k - 1) pastCarrier)) (take (t .count) (t .carriers)) (b .loop2 .alone) (k - 1 + 1) (b .loop2 .j) (omega arith) (b .loop2 .inv .5) (c .before .before .before .loop2-test .left)) in
+    let f : b .loop2 .alone ≡ every (apart (getD (t .carriers) (k - 1) pastCarrier)) (drop k (take (t .count) (t .carriers))) =
+    rw z at (stopped (apart (getD (t .carriers) (k - 1) pastCarrier)) (take (t .count) (t .carriers)) (b .loop2 .alone) (k - 1 + 1)
+    (b .loop2 .j) (omega arith) (b .loop2 .inv .5) (c .before .before .before .loop2-test .left)) in
     let one = c .audited .ensures .1 in (
       omega arith,
       h,
@@ -84,7 +96,8 @@ loop-again c =
       omega arith,
       refl,
       omega arith,
-      c .audited .ensures .0 ∙ rw (c .before .carrier-ok .ensures, c .before .before .port-in .ensures, f, o .loop .inv .6, e, audits-more, used-held t h, ← port-held t h, portAt),
+      c .audited .ensures .0
+          ∙ rw (c .before .carrier-ok .ensures, c .before .before .port-in .ensures, f, o .loop .inv .6, e, audits-more, used-held t h, ← port-held t h, portAt),
     )
 
 returns : tie.Need-returns Inv-loop2 μ-loop2 Inv-loop μ-loop
@@ -96,4 +109,5 @@ pub audits-spec : {M : Type 1} → statement M
 audits-spec =
     tie.close
     (tie.spec Inv-loop2 μ-loop2 Inv-loop μ-loop (λ c κs. tt) loop-holds (λ c. search needs) (λ c. search needs) (λ c. search needs) loop2-holds
-    (λ c. search needs) (λ c. omega (arith, within c)) (λ c. omega (arith, within c)) (λ c. omega (arith, within c)) (λ c κs. tt) (λ c. omega (arith, within (c .before .before))) loop2-again (λ c κs. tt) (λ c κs. tt) audited-requires (λ c. search needs) loop-again returns)
+    (λ c. search needs) (λ c. omega (arith, within c)) (λ c. omega (arith, within c)) (λ c. omega (arith, within c)) (λ c κs. tt)
+    (λ c. omega (arith, within (c .before .before))) loop2-again (λ c κs. tt) (λ c κs. tt) audited-requires (λ c. search needs) loop-again returns)
