@@ -1,0 +1,3 @@
+// A tool as the bytes that its caller lends.
+pub mod read;
+pub mod write;
