@@ -1,21 +1,66 @@
-# Two commands: `make run` plays document 01's run to check by hand, `make test` is the gate.
-# `make compare N=10000000` compares the proved machine with the independent program on more inputs.
-.PHONY: run test compare independent
+# Two commands: `make run` plays document 01's run to check by hand, explained; `make test` is the gate.
+#   make                builds the command line, target/hawsermole
+#   make bench          measures the figures of docs/FIGURES.md
+#   make compare N=..   compares the proved machine with the independent program on more inputs
+include tools/host.mk
 
-N = 400000
+ARCHIVE = target/staticlib/libhawsermole.a
+CARGO = cargo
+N = 100000
+CALLERS = 50000
 
-run:
-	rt check twelve
-	target/bin/twelve
+.PHONY: all run test bench library cross independent rust cli scenarios c sanitize compare
 
-compare:
-	rt staticlib byvalue
-	cd compare && cargo build --offline --quiet --release
-	compare/target/release/compare $(N)
+all: target/hawsermole
 
-independent:
-	cd independent && cargo test --offline --quiet --test hand_run --test readings --test soundness
+cross:
+	tools/cross.sh
 
-test: independent compare
+# The proved functions, for C and Rust to link.
+library:
+	mkdir -p target
+	rt staticlib hawsermole > target/library.log 2>&1 || { cat target/library.log; exit 1; }
+
+$(ARCHIVE): library ;
+
+target/hawsermole: library cross
+	cd cli && $(CARGO) build --offline --quiet --release --locked
+ifeq ($(EMULATOR),)
+	cp cli/target/$(RELEASE)/hawsermole $@
+else
+	cp cli/target/$(RELEASE)/hawsermole $@.x86_64
+	printf '#!/bin/sh\nexec $(EMULATOR) "$$(dirname "$$0")/hawsermole.x86_64" "$$@"\n' > $@
+	chmod +x $@
+endif
+
+run: target/hawsermole
+	target/hawsermole --explain examples/twelve_rows.script
+
+independent: cross
+	cd independent && $(CARGO) test --offline --quiet --test hand_run --test readings --test soundness
+
+rust: library cross
+	cd rust && $(CARGO) test --offline --quiet
+	cd cli && $(CARGO) test --offline --quiet
+
+cli: target/hawsermole
+	tests/cli/run.sh target/hawsermole
+
+scenarios:
+	sh tests/scenarios/check.sh
+
+compare: library cross
+	cd compare && $(CARGO) test --offline --quiet
+	cd compare && $(CARGO) run --offline --quiet --release -- $(N)
+
+bench: library cross
+	cd bench && $(CARGO) test --offline --quiet
+	cd bench && $(CARGO) build --offline --quiet --release
+	bench/instructions.sh
+	cd bench && $(CARGO) run --offline --quiet --release -- time
+
+include tests/c/c.mk
+
+test: independent rust cli scenarios c sanitize compare
 	rt fmt --check
 	rt ci

@@ -4,10 +4,10 @@ use mathlib.Core.Path.{_≡_, refl, subst}
 use mathlib.Core.List.{List, [], _∷_, _++_}
 use lib.ListN.{length, getD, set, replicate}
 use lib.Seq.{sets}
-use Rattle.records.specs.declared.name.Name.{Name}
 use Rattle.records.specs.declared.port.Port.{Port}
 use Rattle.records.specs.declared.carrier.Carrier.{Carrier}
-use Rattle.image.specs.Image.{table, byteAt, bytesFrom, portFrom, carrierFrom, portBytes, carrierBytes}
+use Rattle.rules.specs.declared.report.Report.{Report}
+use Rattle.image.specs.Image.{table, portFrom, carrierFrom, portBytes, carrierBytes, reportFrom, reportBytes}
 use Rattle.image.proofs.Table.{is-table}
 
 -- a fact about a list of n numbers, from the same about every table
@@ -62,3 +62,16 @@ unfolding table carrierBytes
 carrier-back c e h =
     by-table (λ n. carrierFrom (carrierBytes (called c n (c .map))) 0 ≡ called c n (c .map)) 16 (c .name .bytes) e
     (λ f. by-table (λ m. carrierFrom (carrierBytes (called c (table 16 f) m)) 0 ≡ called c (table 16 f) m) 25 (c .map) h (λ g. refl))
+
+pub report-made : (m p o w : ℕ) (n : List ℕ) → length n ≡ 16
+    → set (set (sets (m ∷ p ∷ replicate 18 0) 2 n) 18 o) 19 w ≡ m ∷ p ∷ (n ++ (o ∷ w ∷ []))
+unfolding table
+report-made m p o w n e =
+    by-table (λ n. set (set (sets (m ∷ p ∷ replicate 18 0) 2 n) 18 o) 19 w ≡ m ∷ p ∷ (n ++ (o ∷ w ∷ []))) 16 n e (λ f. refl)
+
+pub report-back : (r : Report) → length (r .name .bytes) ≡ 16 → reportFrom (reportBytes r) 0 ≡ r
+unfolding table reportBytes
+report-back r e =
+    by-table (λ n. reportFrom (r .model ∷ r .port ∷ (n ++ (r .old ∷ r .new ∷ []))) 0
+    ≡ record { model = r .model; port = r .port; name = record { bytes = n }; old = r .old; new = r .new })
+    16 (r .name .bytes) e (λ f. refl)

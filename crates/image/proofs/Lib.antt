@@ -1,3 +1,6 @@
 pub mod Table
 pub mod Written
 pub mod Bytes
+pub mod Laid
+pub mod Moved
+pub mod Reported

@@ -1,7 +1,9 @@
 -- A tool as bytes: what stands where.
 use Prim.Native.Nat.{ℕ, zero, suc, _+_, _*_}
+use mathlib.Core.Bool.{cond}
 use mathlib.Core.List.{List, [], _∷_, _++_}
 use lib.ListN.{getD}
+use lib.Dec.{ltb}
 use Rattle.records.specs.declared.name.Name.{Name}
 use Rattle.records.specs.declared.port.Port.{Port}
 use Rattle.records.specs.declared.carrier.Carrier.{Carrier}
@@ -79,6 +81,10 @@ toolFrom m = record {
   carriers = table 36 (λ k. carrierFrom m (carrierStart k));
 }
 
+-- byte i when each from o to j has given way to the one 50 after it
+unfoldable pub movedUp : List ℕ → ℕ → ℕ → ℕ → ℕ
+movedUp m o j i = cond (ltb i o) (byteAt m i) (cond (ltb i j) (byteAt m (i + 50)) (byteAt m i))
+
 -- a report has 20
 abbrev pub reportFrom : List ℕ → ℕ → Report
 reportFrom m o = record {
@@ -89,6 +95,12 @@ reportFrom m o = record {
   new = byteAt m (o + 19);
 }
 
+unfoldable pub reportBytes : Report → List ℕ
+reportBytes r = r .model ∷ r .port ∷ (r .name .bytes ++ (r .old ∷ r .new ∷ []))
+
+abbrev pub reportStart : ℕ → ℕ
+reportStart k = 1 + 20 * k
+
 -- and the report list 141
 unfoldable pub reportsFrom : List ℕ → Reports
-reportsFrom m = record { count = byteAt m 0; items = table 7 (λ k. reportFrom m (1 + 20 * k)) }
+reportsFrom m = record { count = byteAt m 0; items = table 7 (λ k. reportFrom m (reportStart k)) }

@@ -1,3 +1,5 @@
 // A tool as the bytes that its caller lends.
 pub mod read;
+pub mod report;
+pub mod whole;
 pub mod write;

@@ -1,10 +1,30 @@
-// A port or a carrier, read off the bytes.
+// A port or a carrier, read off the bytes: by where it begins, a port by its number, a record by its position.
 ghost use mathlib.Core.Path.{_≡_};
 ghost use Prim.Native.Nat.{_≤_, _+_};
-ghost use Rattle.image.specs.Image.{bytesFrom, nameFrom, portFrom, carrierFrom};
+ghost use Rattle.rules.specs.State.{spotOf, portAt, recordAt};
+ghost use Rattle.image.specs.Image.{bytesFrom, nameFrom, portFrom, carrierFrom, toolFrom};
 use records::carrier::Carrier;
 use records::name::Name;
 use records::port::Port;
+
+// How many ports, buffer places and records.
+pub fn used(m: &[u8; 1891]) -> u8
+    ensures { λ r. ⌜ r ≡ toolFrom (now (m .entry)) .used ⌝ }
+{
+    m[0]
+}
+
+pub fn places(m: &[u8; 1891]) -> u8
+    ensures { λ r. ⌜ r ≡ toolFrom (now (m .entry)) .places ⌝ }
+{
+    m[1]
+}
+
+pub fn count(m: &[u8; 1891]) -> u8
+    ensures { λ r. ⌜ r ≡ toolFrom (now (m .entry)) .count ⌝ }
+{
+    m[2]
+}
 
 pub fn name_from(m: &[u8; 1891], o: usize) -> Name
     requires { ⌜ o + 16 ≤ 1891 ⌝ }
@@ -66,5 +86,33 @@ pub fn carrier_from(m: &[u8; 1891], o: usize) -> Carrier
         id: m[o + 47],
         slot: m[o + 48],
         accessing: m[o + 49],
+    }
+}
+
+// Where port p stands; 0 stands nowhere.
+pub fn spot_of(p: u8) -> usize
+    ensures { λ r. ⌜ r ≡ spotOf p ⌝ }
+{
+    if p == 0 { 4 } else { (p - 1) as usize }
+}
+
+pub fn port_at(m: &[u8; 1891], p: u8) -> Port
+    ensures { λ r. ⌜ r ≡ portAt (toolFrom (now (m .entry))) p ⌝ }
+{
+    let k = spot_of(p);
+    if k < 4 {
+        port_from(m, 3 + 22 * k)
+    } else {
+        Port::none()
+    }
+}
+
+pub fn record_at(m: &[u8; 1891], k: usize) -> Carrier
+    ensures { λ r. ⌜ r ≡ recordAt (toolFrom (now (m .entry))) k ⌝ }
+{
+    if k < 36 {
+        carrier_from(m, 91 + 50 * k)
+    } else {
+        Carrier::none()
     }
 }

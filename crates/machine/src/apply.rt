@@ -1,78 +1,70 @@
-// An effect carried out.
+// An effect carried out, in place.
 ghost use mathlib.Core.Path.{_≡_};
 ghost use Prim.Native.Nat.{_≤_};
+ghost use Rattle.image.specs.Image.{toolFrom};
 ghost use Rattle.machine.specs.Apply.{withPort, withRecord, removed, pushed, applied};
+use image::read::count;
+use image::read::spot_of;
+use image::read::used;
+use image::write::move_up;
+use image::write::put_carrier;
+use image::write::put_port;
 use records::carrier::Carrier;
 use records::choose::wide;
 use records::port::Port;
 use rules::row::Effect;
-use rules::tool::Tool;
-use soundness::parts::spot_of;
 
-fn with_port(t: Tool, p: u8, q: Port) -> Tool
-    requires { ⌜ t .used ≤ 4 ⌝ }
-    ensures { λ r. ⌜ r ≡ withPort t p q ⌝ }
+fn with_port(m: &mut [u8; 1891], p: u8, q: Port)
+    requires { ⌜ toolFrom (now m) .used ≤ 4 ⌝ }
+    ensures { λ _. ⌜ toolFrom (now (m .exit)) ≡ withPort (toolFrom (now (m .entry))) p q ⌝ }
 {
-    let mut u = t;
     let k = spot_of(p);
-    if k < wide(t.used) {
-        u.ports[k] = q;
+    if k < wide(used(m)) {
+        put_port(m, 3 + 22 * k, q);
     }
-    u
 }
 
-fn with_record(t: Tool, k: usize, c: Carrier) -> Tool
-    requires { ⌜ t .count ≤ 36 ⌝ }
-    ensures { λ r. ⌜ r ≡ withRecord t k c ⌝ }
+fn with_record(m: &mut [u8; 1891], k: usize, c: Carrier)
+    requires { ⌜ toolFrom (now m) .count ≤ 36 ⌝ }
+    ensures { λ _. ⌜ toolFrom (now (m .exit)) ≡ withRecord (toolFrom (now (m .entry))) k c ⌝ }
 {
-    let mut u = t;
-    if k < wide(t.count) {
-        u.carriers[k] = c;
+    if k < wide(count(m)) {
+        put_carrier(m, 91 + 50 * k, c);
     }
-    u
 }
 
-fn removed(t: Tool, k: usize) -> Tool
-    requires { ⌜ t .count ≤ 36 ⌝ }
-    ensures { λ r. ⌜ r ≡ removed t k ⌝ }
+fn removed(m: &mut [u8; 1891], k: usize)
+    requires { ⌜ toolFrom (now m) .count ≤ 36 ⌝ }
+    ensures { λ _. ⌜ toolFrom (now (m .exit)) ≡ removed (toolFrom (now (m .entry))) k ⌝ }
 {
-    let mut u = t;
-    if k < wide(t.count) {
-        u.count -= 1;
-        let mut j = k;
-        while j < 35 {
-            let c = u.carriers[j + 1];
-            u.carriers[j] = c;
-            j += 1;
-        }
-        let z = Carrier::none();
-        u.carriers[j] = z;
+    let n = count(m);
+    if k < wide(n) {
+        move_up(m, 91 + 50 * k);
+        put_carrier(m, 1841, Carrier::none());
+        m[2] = n - 1;
     }
-    u
 }
 
-fn pushed(t: Tool, b: bool, c: Carrier) -> Tool
-    ensures { λ r. ⌜ r ≡ pushed t b c ⌝ }
+fn pushed(m: &mut [u8; 1891], b: bool, c: Carrier)
+    ensures { λ _. ⌜ toolFrom (now (m .exit)) ≡ pushed (toolFrom (now (m .entry))) b c ⌝ }
 {
-    let mut u = t;
-    let k = wide(t.count);
+    let n = count(m);
     if b {
-        if k < 36 {
-            u.carriers[k] = c;
-            u.count += 1;
+        if n < 36 {
+            put_carrier(m, 91 + 50 * wide(n), c);
+            m[2] = n + 1;
         }
     }
-    u
 }
 
-pub fn apply(t: Tool, e: Effect) -> Tool
-    requires { ⌜ t .used ≤ 4 ⌝ }
-    requires { ⌜ t .count ≤ 36 ⌝ }
-    ensures { λ r. ⌜ r ≡ applied t e ⌝ }
+pub fn apply(m: &mut [u8; 1891], e: Effect)
+    requires { ⌜ toolFrom (now m) .used ≤ 4 ⌝ }
+    requires { ⌜ toolFrom (now m) .count ≤ 36 ⌝ }
+    ensures { λ _. ⌜ toolFrom (now (m .exit)) ≡ applied (toolFrom (now (m .entry))) e ⌝ }
 {
     let c = e.next;
-    let a = with_port(t, e.port, e.becomes);
-    let b = with_record(a, e.changes, c);
-    let d = removed(b, e.goes);
-    pushed(d, e.made, c)
+    with_port(m, e.port, e.becomes);
+    with_record(m, e.changes, c);
+    removed(m, e.goes);
+    pushed(m, e.made, c);
 }

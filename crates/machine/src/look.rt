@@ -4,10 +4,16 @@ ghost use Prim.Native.Nat.{_≤_, _+_};
 ghost use Rattle.rules.specs.State.{stateOf};
 ghost use Rattle.rules.specs.Held.{Held};
 ghost use Rattle.rules.specs.Seen.{inputOf, narrow, see};
+ghost use Rattle.image.specs.Image.{toolFrom};
 ghost use Rattle.machine.specs.Pass.{gathered, foundIn};
+use image::read::carrier_from;
+use image::read::count;
+use image::read::places;
+use image::read::port_at;
+use image::read::record_at;
+use image::read::used;
 use records::carrier::Carrier;
 use records::choose::either;
-use records::choose::least;
 use records::choose::one_if;
 use records::choose::wide;
 use records::map::in_map;
@@ -15,10 +21,7 @@ use records::map::is_map;
 use records::name::Name;
 use records::name::in_bytes;
 use records::name::is_name;
-use rows::ask::either_carrier;
 use rules::row::Seen;
-use rules::tool::Tool;
-use soundness::parts::port_in;
 
 // What the records passed so far show: where the name's record stands and that of the carrier tied to the port, how many
 // are expected, whether the buffer place is taken, whether some carrier is open.
@@ -63,12 +66,12 @@ fn gather(p: Passed, c: Carrier, name: Name, port: u8, value: u8, k: usize) -> P
     }
 }
 
-// The one loop over the records. The records found are read here too: a tool that is passed on is copied.
-fn pass(t: Tool, name: Name, port: u8, value: u8) -> Found
-    requires { ⌜ t .count ≤ 36 ⌝ }
-    ensures { λ r. ⌜ r ≡ foundIn t name port value ⌝ }
+// The one loop over the records.
+fn pass(m: &[u8; 1891], name: Name, port: u8, value: u8) -> Found
+    requires { ⌜ toolFrom (now m) .count ≤ 36 ⌝ }
+    ensures { λ r. ⌜ r ≡ foundIn (toolFrom (now (m .entry))) name port value ⌝ }
 {
-    let n = wide(t.count);
+    let n = wide(count(m));
     let mut p = Passed {
         stands: n,
         holds: n,
@@ -79,15 +82,11 @@ fn pass(t: Tool, name: Name, port: u8, value: u8) -> Found
     let mut k = n;
     while 0 < k {
         k -= 1;
-        let c = t.carriers[k];
+        let c = carrier_from(m, 91 + 50 * k);
         p = gather(p, c, name, port, value, k);
     }
-    let i = least(p.stands, 35);
-    let j = least(p.holds, 35);
-    let a = t.carriers[i];
-    let b = t.carriers[j];
-    let found = either_carrier(p.stands < 36, a, Carrier::none());
-    let held = either_carrier(p.holds < 36, b, Carrier::none());
+    let found = record_at(m, p.stands);
+    let held = record_at(m, p.holds);
     Found {
         passed: p,
         found,
@@ -95,25 +94,24 @@ fn pass(t: Tool, name: Name, port: u8, value: u8) -> Found
     }
 }
 
-pub fn look(t: Tool, port: u32, value: u32, name: &[u8], codes: &[u8]) -> Seen
-    requires { ⌜ Held t ⌝ }
-    ensures { λ r. ⌜ r ≡ see (stateOf t) (inputOf 0 port value (now (name .entry)) (now (codes .entry))) ⌝ }
+pub fn look(m: &[u8; 1891], port: u32, value: u32, name: &[u8], codes: &[u8]) -> Seen
+    requires { ⌜ Held (toolFrom (now m)) ⌝ }
+    ensures { λ r. ⌜ r ≡ see (stateOf (toolFrom (now (m .entry)))) (inputOf 0 port value (now (name .entry)) (now (codes .entry))) ⌝ }
 {
     let port = narrow(port);
     let value = narrow(value);
     let text = in_bytes(name);
-    let f = pass(t, text, port, value);
+    let f = pass(m, text, port, value);
     let p = f.passed;
     let found = f.found;
     let held = f.held;
-    let count = wide(t.count);
-    let ports = t.ports;
+    let n = wide(count(m));
     let map = in_map(codes);
     Seen {
-        places: t.places,
-        count,
+        places: places(m),
+        count: n,
         port,
-        isport: (1 <= port) & (port <= t.used),
+        isport: (1 <= port) & (port <= used(m)),
         noport: port == 0,
         value,
         name: text,
@@ -121,13 +119,13 @@ pub fn look(t: Tool, port: u32, value: u32, name: &[u8], codes: &[u8]) -> Seen
         blank: name.len() == 0,
         map,
         mapped: is_map(codes),
-        here: port_in(ports, port),
+        here: port_at(m, port),
         stands: p.stands,
-        known: p.stands < count,
+        known: p.stands < n,
         found,
-        home: port_in(ports, found.port),
+        home: port_at(m, found.port),
         holds: p.holds,
-        tied: p.holds < count,
+        tied: p.holds < n,
         held,
         full: 16 <= p.expected,
         taken: p.taken,

@@ -1,72 +1,58 @@
-// Set-up.
+// Set-up, in place.
 ghost use mathlib.Core.Path.{_≡_};
 ghost use Prim.Native.Nat.{_≤_};
 ghost use lib.ListN.{replicate};
 ghost use Rattle.lists.specs.Lists.{fill};
 ghost use Rattle.records.specs.Ports.{noPort, newPort};
 ghost use Rattle.rules.specs.State.{noTool, setUp};
-use records::carrier::Carrier;
+ghost use Rattle.image.specs.Image.{toolFrom};
+ghost use Rattle.machine.specs.Apply.{toPorts};
+use image::write::clear;
+use image::write::put;
+use image::write::put_port;
 use records::port::Port;
-use rules::tool::Setup;
-use rules::tool::Tool;
 
 // No tool: all zeros, which is not sound.
-pub fn no_tool() -> Tool
-    ensures { λ r. ⌜ r ≡ noTool ⌝ }
+fn no_tool(m: &mut [u8; 1891])
+    ensures { λ _. ⌜ toolFrom (now (m .exit)) ≡ noTool ⌝ }
 {
-    let q = Port::none();
-    let c = Carrier::none();
-    let ports = [q; 4];
-    let carriers = [c; 36];
-    Tool {
-        used: 0,
-        places: 0,
-        count: 0,
-        ports,
-        carriers,
-    }
+    clear(m);
 }
 
 // The first p ports as they are at set-up, and no port after them.
-fn fresh_ports(p: usize) -> [Port; 4]
+fn fresh_ports(m: &mut [u8; 1891], p: usize)
     requires { ⌜ p ≤ 4 ⌝ }
-    ensures { λ r. ⌜ r ≡ fill 4 noPort (replicate p newPort) ⌝ }
+    requires { ⌜ toolFrom (now m) ≡ noTool ⌝ }
+    ensures { λ _. ⌜ toolFrom (now (m .exit)) ≡ toPorts noTool (fill 4 noPort (replicate p newPort)) ⌝ }
 {
-    let none = Port::none();
     let fresh = Port::fresh();
-    let mut ports = [none; 4];
-    let mut i = 0;
-    while i < p {
-        ports[i] = fresh;
-        i += 1;
+    let mut k = 0;
+    while k < p {
+        put_port(m, 3 + 22 * k, fresh);
+        k += 1;
     }
-    ports
 }
 
 // 1 to 4 ports and 0 to 16 buffer places; anything else is refused with 1 and gives no tool.
-pub fn setup(p: u32, b: u32) -> Setup
-    ensures { λ r. ⌜ r ≡ setUp p b ⌝ }
+pub fn setup(m: &mut [u8; 1891], p: u32, b: u32) -> u8
+    ensures { λ r. ⌜ toolFrom (now (m .exit)) ≡ setUp p b .tool ⌝ }
+    ensures { λ r. ⌜ r ≡ setUp p b .answer ⌝ }
 {
-    let tool = no_tool();
+    no_tool(m);
     if 1 <= p {
         if p <= 4 {
             if b <= 16 {
-                let mut made = tool;
-                let ports = fresh_ports(p as usize);
-                made.ports = ports;
-                made.used = p as u8;
-                made.places = b as u8;
-                Setup {
-                    tool: made,
-                    answer: 0,
-                }
+                fresh_ports(m, p as usize);
+                let sizes = [p as u8, b as u8];
+                put(m, 0, &sizes);
+                0
             } else {
-                Setup { tool, answer: 1 }
+                1
             }
         } else {
-            Setup { tool, answer: 1 }
+            1
         }
     } else {
-        Setup { tool, answer: 1 }
+        1
     }
 }

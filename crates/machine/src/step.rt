@@ -4,64 +4,66 @@ ghost use mathlib.Core.Bool.{true};
 ghost use Rattle.rules.specs.Seen.{inputOf};
 ghost use Rattle.rules.specs.Sound.{soundTool};
 ghost use Rattle.rules.specs.Outcome.{outcomeIn, outcome};
+ghost use Rattle.image.specs.Image.{toolFrom, reportsFrom};
 use crate::apply::apply;
 use crate::look::look;
-use crate::report::no_reports;
 use crate::report::told;
-use records::carrier::Carrier;
-use records::choose::least;
-use rows::ask::either_carrier;
+use image::read::port_at;
+use image::read::record_at;
+use image::report::no_reports;
+use image::whole::tool_from;
 use rows::numbered::answer_of;
 use rows::numbered::effect_of;
-use rules::report::Outcome;
-use rules::tool::Tool;
-use soundness::parts::port_in;
 use soundness::whole::sound;
 
 // For a layer above that has tested soundness itself: it is most of the time that a step takes.
-pub fn step_sound(t: Tool, number: u32, port: u32, value: u32, name: &[u8], codes: &[u8]) -> Outcome
-    requires { ⌜ soundTool t ≡ true ⌝ }
-    ensures { λ r. ⌜ r ≡ outcomeIn t (inputOf number port value (now (name .entry)) (now (codes .entry))) ⌝ }
+pub fn step_sound(
+    m: &mut [u8; 1891],
+    o: &mut [u8; 141],
+    number: u32,
+    port: u32,
+    value: u32,
+    name: &[u8],
+    codes: &[u8],
+) -> u8
+    requires { ⌜ soundTool (toolFrom (now m)) ≡ true ⌝ }
+    ensures { λ r. ⌜ toolFrom (now (m .exit)) ≡ outcomeIn (toolFrom (now (m .entry))) (inputOf number port value (now (name .entry)) (now (codes .entry))) .tool ⌝ }
+    ensures { λ r. ⌜ reportsFrom (now (o .exit)) ≡ outcomeIn (toolFrom (now (m .entry))) (inputOf number port value (now (name .entry)) (now (codes .entry))) .reports ⌝ }
+    ensures { λ r. ⌜ r ≡ outcomeIn (toolFrom (now (m .entry))) (inputOf number port value (now (name .entry)) (now (codes .entry))) .answer ⌝ }
 {
-    let x = look(t, port, value, name, codes);
+    let x = look(m, port, value, name, codes);
     let answer = answer_of(number, x);
     if answer == 0 {
         let e = effect_of(number, x);
-        let i = least(e.goes, 35);
-        let j = least(e.changes, 35);
-        let a = t.carriers[i];
-        let b = t.carriers[j];
-        let gone = either_carrier(e.goes < 36, a, Carrier::none());
-        let was = either_carrier(e.changes < 36, b, Carrier::none());
-        let reports = told(e, port_in(t.ports, e.port), gone, was);
-        let tool = apply(t, e);
-        Outcome {
-            tool,
-            answer: 0,
-            reports,
-        }
+        let gone = record_at(m, e.goes);
+        let was = record_at(m, e.changes);
+        let here = port_at(m, e.port);
+        told(o, e, here, gone, was);
+        apply(m, e);
     } else {
-        let reports = no_reports();
-        Outcome {
-            tool: t,
-            answer,
-            reports,
-        }
+        no_reports(o);
     }
+    answer
 }
 
 // Any input to any tool: the answer, the tool that follows, and the reports.
-pub fn step(t: Tool, number: u32, port: u32, value: u32, name: &[u8], codes: &[u8]) -> Outcome
-    ensures { λ r. ⌜ r ≡ outcome t (inputOf number port value (now (name .entry)) (now (codes .entry))) ⌝ }
+pub fn step(
+    m: &mut [u8; 1891],
+    o: &mut [u8; 141],
+    number: u32,
+    port: u32,
+    value: u32,
+    name: &[u8],
+    codes: &[u8],
+) -> u8
+    ensures { λ r. ⌜ toolFrom (now (m .exit)) ≡ outcome (toolFrom (now (m .entry))) (inputOf number port value (now (name .entry)) (now (codes .entry))) .tool ⌝ }
+    ensures { λ r. ⌜ reportsFrom (now (o .exit)) ≡ outcome (toolFrom (now (m .entry))) (inputOf number port value (now (name .entry)) (now (codes .entry))) .reports ⌝ }
+    ensures { λ r. ⌜ r ≡ outcome (toolFrom (now (m .entry))) (inputOf number port value (now (name .entry)) (now (codes .entry))) .answer ⌝ }
 {
-    if sound(t) {
-        step_sound(t, number, port, value, name, codes)
+    if sound(tool_from(m)) {
+        step_sound(m, o, number, port, value, name, codes)
     } else {
-        let reports = no_reports();
-        Outcome {
-            tool: t,
-            answer: 1,
-            reports,
-        }
+        no_reports(o);
+        1
     }
 }

@@ -1,55 +1,44 @@
 use borrow.Author.Needs.{needs}
-use native.Mathlib.Omega.{arith}
-use Prim.Native.Nat.{ℕ, _≤_, _<_, _-_}
-use mathlib.Core.Path.{_≡_, refl, sym, _∙_}
-use lib.ListN.{length, length-map, length-set}
 use borrow.Author.Tests.{lt-ltb, le-ltb}
-use Rattle.lists.specs.Lists.{shifted}
-use Rattle.lists.proofs.Tables.{shift-on, last-shifted}
-use Rattle.records.specs.Carriers.{noCarrier}
-use Rattle.rules.specs.declared.tool.Tool.{Tool}
-use Rattle.rules.proofs.Past.{pastCarrier}
-use Rattle.machine.specs.Apply.{toCarriers, removed}
+use native.Mathlib.Omega.{arith}
+use Prim.Native.Nat.{_-_}
+use mathlib.Core.Path.{_≡_, ap, _∙_}
+use mathlib.Core.Bool.{true, false}
+use lib.Dec.{ltb}
+use lib.ListN.{set}
+use Rattle.image.specs.Image.{toolFrom}
+use Rattle.machine.specs.Apply.{removed}
+use Rattle.machine.proofs.InPlace.{removed-done}
 use Rattle.machine.proofs.apply.removed.Statement.{statement}
 use Rattle.machine.proofs.apply.removed.Tie as tie
 
-abbrev out : Tool → ℕ → Tool
-out u k = toCarriers u (u .count) (shifted noCarrier (u .carriers) k)
-
--- what is still to be moved gives the same tool
-abbrev Inv-loop : tie.InvT-loop
-Inv-loop k u₀ j₀ u j = (length (u .carriers) ≡ 36) × (j ≤ 35) × (out u j ≡ out u₀ k)
-
-abbrev μ-loop : tie.MeasureT-loop
-μ-loop k u₀ j₀ u j = 35 - j
-
-loop-holds : tie.Need-loop-holds Inv-loop μ-loop
-loop-holds c =
-    let t = c .before .before .args .t in
-    let h : length (t .carriers) ≡ 36 = sym (length-map (t .carriers) _) ∙ c .before .before .good .0 .1 .1 .1 .1 .1 .1 .0 .1 .0 .1 in
-    (h, omega (arith, c .before .wide .ensures), refl)
-
-loop-again : tie.Need-loop-again Inv-loop μ-loop
-loop-again c =
-    let b = c .before .before in
-    let e = shift-on noCarrier (b .loop .u .carriers) (b .loop .j) pastCarrier (omega arith) in
-    (simp length-set (omega arith), omega arith, rw e (b .loop .inv .2))
-
-returns : tie.Need-returns Inv-loop μ-loop
+returns : tie.Need-returns
 unfolding removed
 returns c =
-    let b = c .before .before in
-    let s = b .before .before in
-    let f : s .before .args .k < s .before .args .t .count = omega (arith, s .wide .ensures, b .before .if1 .taken) in
-    rw (c .none .ensures, ← last-shifted noCarrier (b .loop .u .carriers) (b .loop .j) (omega arith), lt-ltb _ _ f) (b .loop .inv .2)
+    let n = c .before .before .before .before .before .before .before in
+    let s = n .before .before in
+    let m = s .args .m .now in
+    let k = s .args .k in
+    let e = n .count .ensures in
+    let w = c .before .before .before .before .before .before .wide .ensures in
+    let i : ltb k (toolFrom m .count) ≡ true = lt-ltb k (toolFrom m .count) (omega (arith, c .before .before .before .before .before .if1 .taken)) in
+    let v = n .count .result - 1 in
+    let q = rw (c .before .none .ensures, c .before .before .before .move-up .ensures) at (c .put-carrier .ensures .0) in
+    rw (i, ← e) (ap (λ l. toolFrom (set l 2 v)) q ∙ removed-done m k (omega arith) v)
 
-returns-2 : tie.Need-returns-2 Inv-loop μ-loop
+returns-2 : tie.Need-returns-2
 unfolding removed
-returns-2 c = rw (← c .before .wide .ensures, le-ltb _ _ (c .if1 .left))
+returns-2 c =
+    let s = c .before .before .before .before in
+    let m = s .args .m .now in
+    let k = s .args .k in
+    let e = c .before .before .count .ensures in
+    let w = c .before .wide .ensures in
+    let i : ltb k (toolFrom m .count) ≡ false = le-ltb k (toolFrom m .count) (omega (arith, c .if1 .left)) in
+    rw i
 
 pub removed-spec : {M : Type 1} → statement M
 removed-spec =
     tie.close
-    (tie.spec Inv-loop μ-loop (λ c κs. tt) (λ c. search needs) loop-holds (λ c. search needs) (λ c. search needs) (λ c. search needs)
-    (λ c. search needs) (λ c. search needs) (λ c. search needs) (λ c. search needs)
-    loop-again (λ c κs. tt) (λ c. search needs) (λ c. search needs) returns returns-2)
+    (tie.spec (λ c κs. tt) (λ c κs. tt) (λ c. search needs) (λ c. search needs) (λ c κs. search needs) (λ c κs. tt) (λ c κs. search needs)
+    (λ c. search needs) (λ c. search needs) returns returns-2)

@@ -6,19 +6,20 @@ use Rattle.machine.proofs.report.port_reports.Tie as tie
 returns : tie.Need-returns
 unfolding portTouched
 returns c =
-    let three = c .before .before .before .before in
-    let two = three .before .before .before in
-    let one = two .before .before .before in
+    let new = c .before .before in
+    let three = new .before .before .before in
+    let two = three .before .before .before .before in
+    let one = two .before .before .before .before in
     simp noteAll-append
     (rw (
       c .note-if4 .ensures,
-      c .before .tie-number2 .ensures,
-      c .before .before .tie-number .ensures,
-      c .before .before .before .same .ensures,
+      new .tie-number2 .ensures,
+      new .before .tie-number .ensures,
+      new .before .before .same .ensures,
       three .note-if3 .ensures,
       two .note-if2 .ensures,
       one .note-if .ensures,
-      one .before .before .before .none .ensures,
+      one .before .before .before .before .none .ensures,
     ))
 
 pub port-reports-spec : {M : Type 1} → statement M

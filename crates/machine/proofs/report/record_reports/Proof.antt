@@ -7,4 +7,4 @@ pub record-reports-spec : {M : Type 1} → statement M
 unfolding recordTouched
 record-reports-spec =
     tie.close
-    (tie.spec (λ c κs. tt) (λ c κs. tt) (λ c. simp noteAll-append (rw (c .note-if2 .ensures, c .before .note-if .ensures))))
+    (tie.spec (λ c κs. tt) (λ c κs. tt) (λ c. simp noteAll-append (rw (c .note-if2 .ensures, c .before .before .note-if .ensures))))

@@ -6,14 +6,16 @@ use Rattle.machine.proofs.report.told.Tie as tie
 returns : tie.Need-returns
 unfolding touched
 returns c =
-    let a = c .before .before .before in
+    let two = c .before .before in
+    let one = two .before .before in
+    let p = one .before .before in
     simp noteAll-append
     (rw (
       c .record-reports3 .ensures,
-      c .before .record-reports2 .ensures,
-      c .before .before .record-reports .ensures,
-      a .port-reports .ensures,
-      a .before .no-reports .ensures,
+      two .record-reports2 .ensures,
+      one .record-reports .ensures,
+      p .port-reports .ensures,
+      p .before .before .no-reports .ensures,
     ))
 
 pub told-spec : {M : Type 1} → statement M

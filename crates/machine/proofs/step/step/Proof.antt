@@ -1,12 +1,48 @@
-use mathlib.Core.Path.{sym, _∙_}
-use Rattle.rules.specs.Outcome.{outcome}
+use mathlib.Core.Path.{_≡_, sym, ap, _∙_}
+use mathlib.Core.Bool.{true, false}
+use Rattle.rules.specs.declared.tool.Tool.{Tool}
+use Rattle.rules.specs.Sound.{soundTool}
+use Rattle.rules.specs.Seen.{Input, inputOf}
+use Rattle.rules.specs.Outcome.{refused, outcomeIn, outcome}
+use Rattle.image.specs.Image.{toolFrom}
 use Rattle.machine.proofs.step.step.Statement.{statement}
 use Rattle.machine.proofs.step.step.Tie as tie
 
-pub step-spec : {M : Type 1} → statement M
+abbrev tool : tie.Start → Tool
+tool s = toolFrom (s .args .m .now)
+
+abbrev input : tie.Start → Input
+input s = inputOf (s .args .number) (s .args .port) (s .args .value) (s .args .name .now) (s .args .codes .now)
+
+-- a sound tool and another
+when-sound : (t : Tool) (i : Input) → soundTool t ≡ true → outcomeIn t i ≡ outcome t i
 unfolding outcome
-step-spec =
-    tie.close
-    (tie.spec (λ c κs. tt) (λ c κs. sym (c .before .sound .ensures) ∙ c .if1 .taken) (λ c κs. tt)
-    (λ c. rw (← c .before .before .sound .ensures, c .before .if1 .taken) (c .step-sound .ensures))
-    (λ c. rw (c .no-reports .ensures, ← c .before .before .sound .ensures, c .before .if1 .left)))
+when-sound t i h = rw h
+
+when-not : (t : Tool) (i : Input) → soundTool t ≡ false → refused t 1 ≡ outcome t i
+unfolding outcome
+when-not t i h = rw h
+
+tested : (c : tie.After-sound) → c .sound .result ≡ soundTool (tool (c .before .before .before .before .before))
+tested c = c .sound .ensures ∙ ap soundTool (c .before .tool-from .ensures)
+
+step-sound-requires : tie.Need-step-sound-requires
+step-sound-requires c κs = sym (tested (c .before .before .before)) ∙ c .before .before .if1 .taken
+
+returns : tie.Need-returns
+returns c =
+    let u = c .before .before .before .before in
+    let s = u .before .before .before .before .before in
+    let o = when-sound (tool s) (input s) (sym (tested u) ∙ c .before .before .before .if1 .taken) in
+    let e = c .step-sound .ensures in
+    (e .0 ∙ ap (λ x. x .tool) o, (e .1 .0 ∙ ap (λ x. x .reports) o, e .1 .1 ∙ ap (λ x. x .answer) o))
+
+returns-2 : tie.Need-returns-2
+returns-2 c =
+    let u = c .before .before .before in
+    let s = u .before .before .before .before .before in
+    let o = when-not (tool s) (input s) (sym (tested u) ∙ c .before .before .if1 .left) in
+    (ap (λ x. x .tool) o, (c .no-reports .ensures ∙ ap (λ x. x .reports) o, ap (λ x. x .answer) o))
+
+pub step-spec : {M : Type 1} → statement M
+step-spec = tie.close (tie.spec (λ c κs. tt) (λ c κs. tt) step-sound-requires (λ c κs. tt) returns returns-2)

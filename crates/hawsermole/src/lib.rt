@@ -1,0 +1,61 @@
+// The library's functions for C: a tool and a report list are bytes that the caller lends, and
+// include/hawsermole.h names them.
+ghost use mathlib.Core.Path.{_≡_};
+ghost use mathlib.Core.Bool.{cond};
+ghost use Rattle.rules.specs.State.{setUp};
+ghost use Rattle.rules.specs.Sound.{soundTool};
+ghost use Rattle.rules.specs.Seen.{inputOf};
+ghost use Rattle.rules.specs.Outcome.{outcome};
+ghost use Rattle.image.specs.Image.{toolFrom, reportsFrom};
+use image::whole::tool_from;
+use machine::setup::setup;
+use machine::step::step;
+use soundness::whole::sound;
+
+#[no_mangle]
+pub extern "C" fn hm_tool_size() -> u32
+    ensures { λ r. ⌜ r ≡ 1891 ⌝ }
+{
+    1891
+}
+
+#[no_mangle]
+pub extern "C" fn hm_reports_size() -> u32
+    ensures { λ r. ⌜ r ≡ 141 ⌝ }
+{
+    141
+}
+
+#[no_mangle]
+pub extern "C" fn hm_setup(tool: &mut [u8; 1891], ports: u32, places: u32) -> u32
+    ensures { λ r. ⌜ toolFrom (now (tool .exit)) ≡ setUp ports places .tool ⌝ }
+    ensures { λ r. ⌜ r ≡ setUp ports places .answer ⌝ }
+{
+    let answer = setup(tool, ports, places);
+    answer as u32
+}
+
+#[no_mangle]
+pub extern "C" fn hm_sound(tool: &[u8; 1891]) -> u32
+    ensures { λ r. ⌜ r ≡ cond (soundTool (toolFrom (now (tool .entry)))) 1 0 ⌝ }
+{
+    if sound(tool_from(tool)) { 1 } else { 0 }
+}
+
+#[no_mangle]
+pub extern "C" fn hm_step(
+    tool: &mut [u8; 1891],
+    reports: &mut [u8; 141],
+    number: u32,
+    port: u32,
+    value: u32,
+    name: &[u8],
+    codes: &[u8],
+) -> u32
+    ensures { λ r. ⌜ toolFrom (now (tool .exit)) ≡ outcome (toolFrom (now (tool .entry))) (inputOf number port value (now (name .entry)) (now (codes .entry))) .tool ⌝ }
+    ensures { λ r. ⌜ reportsFrom (now (reports .exit)) ≡ outcome (toolFrom (now (tool .entry))) (inputOf number port value (now (name .entry)) (now (codes .entry))) .reports ⌝ }
+    ensures { λ r. ⌜ r ≡ outcome (toolFrom (now (tool .entry))) (inputOf number port value (now (name .entry)) (now (codes .entry))) .answer ⌝ }
+{
+    let answer = step(tool, reports, number, port, value, name, codes);
+    answer as u32
+}
