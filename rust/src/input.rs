@@ -1,0 +1,202 @@
+//! The inputs, with document 01's names and arguments.
+use crate::row::{Row, ROWS};
+
+/// One input: document 01's 26 rows, with their arguments in its order.
+///
+/// A port, place or value is any 32-bit number, a name and codes are any bytes of any length: what is outside its range is
+/// answered with [`Refusal::OutOfRange`](crate::Refusal::OutOfRange), not cut. Port 0 and an empty name mean "not given", where
+/// the case says so.
+#[expect(missing_docs, reason = "each case says what its arguments are; a line for each would hide the table")]
+#[derive(Clone, Copy, Debug, PartialEq, Eq, Hash)]
+pub enum Input<'a> {
+    /// 1: associates an expected carrier with a port, and reserves the port.
+    Bind { port: u32, name: &'a [u8] },
+    /// 2: takes a Bind back. Port 0 or an empty name: not given; one of them is.
+    CancelBind { port: u32, name: &'a [u8] },
+    /// 3: announces a carrier.
+    CarrierNotification { name: &'a [u8] },
+    /// 4: takes an announcement back.
+    CancelCarrierNotification { name: &'a [u8] },
+    /// 5: the host accepts a carrier's ID, or else its slot map. Port 0: not given.
+    ProceedWithCarrier { name: &'a [u8], port: u32 },
+    /// 6: the host rejects a carrier. Port 0: not given.
+    CancelCarrier { name: &'a [u8], port: u32 },
+    /// 7: a carrier comes from the buffer to a port.
+    CarrierOut { name: &'a [u8], port: u32 },
+    /// 8: a carrier that came out is called back in.
+    CarrierIn { name: &'a [u8] },
+    /// 9: sets a port's access mode: 0 MANUAL, 1 AUTO.
+    ChangeAccess { port: u32, access: u32 },
+    /// 10: takes a port out of service, 0, or puts it in service, 1.
+    ChangeServiceStatus { port: u32, service: u32 },
+    /// 11: reserves a port.
+    ReserveAtPort { port: u32 },
+    /// 12: ends a port's reservation.
+    CancelReservationAtPort { port: u32 },
+    /// 13: a pod starts to arrive at a port.
+    LoadStart { port: u32 },
+    /// 14: the pod has arrived.
+    LoadDone { port: u32 },
+    /// 15: the pod didn't arrive.
+    LoadFail { port: u32 },
+    /// 16: the name on the pod's tag was read.
+    IdRead { port: u32, name: &'a [u8] },
+    /// 17: the pod's tag couldn't be read.
+    IdReadFailed { port: u32 },
+    /// 18: the pod goes from the port to a buffer place, 1 to B.
+    MoveIn { port: u32, place: u32 },
+    /// 19: opens a carrier.
+    Open { name: &'a [u8] },
+    /// 20: the slot map of an open carrier was read: 25 codes, each 0 to 5 (see [`slot_code`](crate::words::slot_code)).
+    SlotMap { name: &'a [u8], codes: &'a [u8] },
+    /// 21: the wafers are about to be touched.
+    AccessStart { name: &'a [u8] },
+    /// 22: the access is over: 0 complete, 1 stopped.
+    AccessEnd { name: &'a [u8], end: u32 },
+    /// 23: closes a carrier.
+    Close { name: &'a [u8] },
+    /// 24: a pod starts to leave a port.
+    UnloadStart { port: u32 },
+    /// 25: the pod has left.
+    UnloadDone { port: u32 },
+    /// 26: the pod didn't leave.
+    UnloadFail { port: u32 },
+}
+
+/// An input as the machine takes it. A row looks only at the parts that it names.
+#[derive(Clone, Copy, Debug, Default, PartialEq, Eq, Hash)]
+pub struct Parts<'a> {
+    /// The row: 1 to 26.
+    pub number: u32,
+    /// The port.
+    pub port: u32,
+    /// The access mode, service status, buffer place or end of access.
+    pub value: u32,
+    /// The carrier's name.
+    pub name: &'a [u8],
+    /// The codes of a slot map.
+    pub codes: &'a [u8],
+}
+
+impl<'a> Parts<'a> {
+    fn row(number: u32) -> Parts<'a> {
+        Parts { number, ..Parts::default() }
+    }
+
+    fn port(self, port: u32) -> Parts<'a> {
+        Parts { port, ..self }
+    }
+
+    fn value(self, value: u32) -> Parts<'a> {
+        Parts { value, ..self }
+    }
+
+    fn name(self, name: &'a [u8]) -> Parts<'a> {
+        Parts { name, ..self }
+    }
+
+    fn codes(self, codes: &'a [u8]) -> Parts<'a> {
+        Parts { codes, ..self }
+    }
+}
+
+impl<'a> Input<'a> {
+    /// The input as the machine takes it; parts that the row doesn't name are 0 or empty.
+    ///
+    /// ```
+    /// use hawsermole::Input;
+    ///
+    /// let parts = Input::MoveIn { port: 2, place: 16 }.parts();
+    /// assert_eq!((parts.number, parts.port, parts.value), (18, 2, 16));
+    /// assert!(parts.name.is_empty() && parts.codes.is_empty());
+    /// ```
+    pub fn parts(&self) -> Parts<'a> {
+        let row = Parts::row;
+        match *self {
+            Input::Bind { port, name } => row(1).port(port).name(name),
+            Input::CancelBind { port, name } => row(2).port(port).name(name),
+            Input::CarrierNotification { name } => row(3).name(name),
+            Input::CancelCarrierNotification { name } => row(4).name(name),
+            Input::ProceedWithCarrier { name, port } => row(5).name(name).port(port),
+            Input::CancelCarrier { name, port } => row(6).name(name).port(port),
+            Input::CarrierOut { name, port } => row(7).name(name).port(port),
+            Input::CarrierIn { name } => row(8).name(name),
+            Input::ChangeAccess { port, access } => row(9).port(port).value(access),
+            Input::ChangeServiceStatus { port, service } => row(10).port(port).value(service),
+            Input::ReserveAtPort { port } => row(11).port(port),
+            Input::CancelReservationAtPort { port } => row(12).port(port),
+            Input::LoadStart { port } => row(13).port(port),
+            Input::LoadDone { port } => row(14).port(port),
+            Input::LoadFail { port } => row(15).port(port),
+            Input::IdRead { port, name } => row(16).port(port).name(name),
+            Input::IdReadFailed { port } => row(17).port(port),
+            Input::MoveIn { port, place } => row(18).port(port).value(place),
+            Input::Open { name } => row(19).name(name),
+            Input::SlotMap { name, codes } => row(20).name(name).codes(codes),
+            Input::AccessStart { name } => row(21).name(name),
+            Input::AccessEnd { name, end } => row(22).name(name).value(end),
+            Input::Close { name } => row(23).name(name),
+            Input::UnloadStart { port } => row(24).port(port),
+            Input::UnloadDone { port } => row(25).port(port),
+            Input::UnloadFail { port } => row(26).port(port),
+        }
+    }
+
+    /// The input of its parts; none if the number isn't 1 to 26. Parts that the row doesn't name are left out.
+    ///
+    /// ```
+    /// use hawsermole::{Input, Parts};
+    ///
+    /// let parts = Parts { number: 13, port: 1, ..Parts::default() };
+    /// assert_eq!(Input::from_parts(&parts), Some(Input::LoadStart { port: 1 }));
+    /// assert_eq!(Input::from_parts(&Parts { number: 27, ..parts }), None);
+    /// ```
+    pub fn from_parts(parts: &Parts<'a>) -> Option<Input<'a>> {
+        let Parts { number, port, value, name, codes } = *parts;
+        Some(match number {
+            1 => Input::Bind { port, name },
+            2 => Input::CancelBind { port, name },
+            3 => Input::CarrierNotification { name },
+            4 => Input::CancelCarrierNotification { name },
+            5 => Input::ProceedWithCarrier { name, port },
+            6 => Input::CancelCarrier { name, port },
+            7 => Input::CarrierOut { name, port },
+            8 => Input::CarrierIn { name },
+            9 => Input::ChangeAccess { port, access: value },
+            10 => Input::ChangeServiceStatus { port, service: value },
+            11 => Input::ReserveAtPort { port },
+            12 => Input::CancelReservationAtPort { port },
+            13 => Input::LoadStart { port },
+            14 => Input::LoadDone { port },
+            15 => Input::LoadFail { port },
+            16 => Input::IdRead { port, name },
+            17 => Input::IdReadFailed { port },
+            18 => Input::MoveIn { port, place: value },
+            19 => Input::Open { name },
+            20 => Input::SlotMap { name, codes },
+            21 => Input::AccessStart { name },
+            22 => Input::AccessEnd { name, end: value },
+            23 => Input::Close { name },
+            24 => Input::UnloadStart { port },
+            25 => Input::UnloadDone { port },
+            26 => Input::UnloadFail { port },
+            _ => return None,
+        })
+    }
+
+    /// Document 01's number, 1 to 26.
+    pub fn number(&self) -> u32 {
+        self.parts().number
+    }
+
+    /// The row: name, arguments and what it means.
+    ///
+    /// ```
+    /// use hawsermole::Input;
+    ///
+    /// assert_eq!(Input::Open { name: b"AB" }.row().name, "Open");
+    /// ```
+    pub fn row(&self) -> &'static Row {
+        &ROWS[self.number() as usize - 1]
+    }
+}

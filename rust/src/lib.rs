@@ -1,0 +1,59 @@
+//! *Verify the pod before you open it.* SEMI E87 carrier management for small controllers inside wafer tools: load ports, pods
+//! and the buffer, one input at a time, no heap.
+//!
+//! The machine itself is an archive, `libhawsermole.a`, proved to give exactly the answer, the state and the reports that
+//! document 01 lays down. This crate wraps it: an [`Input`] has document 01's name and arguments, a [`Refusal`] is one of its
+//! eight reasons, and [`Reports`] gives what changed.
+//!
+//! ```
+//! use hawsermole::{Input, Model, Refusal, Subject, Tool};
+//!
+//! let mut tool = Tool::setup(2, 0)?;
+//! tool.step(&Input::Bind { port: 1, name: b"AB" })?;
+//!
+//! // The port is no longer READY TO LOAD once the pod starts to arrive, and its reservation ends.
+//! let reports = tool.step(&Input::LoadStart { port: 1 })?;
+//! let models: Vec<Model> = reports.map(|report| report.model).collect();
+//! assert_eq!(models, [Model::Transfer, Model::Reservation]);
+//!
+//! // Nothing opens before it is verified.
+//! tool.step(&Input::LoadDone { port: 1 })?;
+//! tool.step(&Input::IdRead { port: 1, name: b"AC" })?;
+//! assert_eq!(tool.step(&Input::Open { name: b"AC" }), Err(Refusal::NotVerified));
+//!
+//! // The host accepts the ID that was read: now it may.
+//! let mut reports = tool.step(&Input::ProceedWithCarrier { name: b"AC", port: 0 })?;
+//! let report = reports.next().unwrap();
+//! assert_eq!((report.model, report.old, report.new), (Model::Id, 2, 3));
+//! assert!(matches!(report.subject, Subject::Carrier(name) if name.as_bytes() == b"AC"));
+//! assert!(tool.step(&Input::Open { name: b"AC" }).is_ok());
+//! # Ok::<(), Refusal>(())
+//! ```
+//!
+//! No input is too odd: numbers are 32 bits and are not cut, names and codes may be any bytes of any length, and a [`Tool`] may
+//! be made of any bytes. A refusal leaves the tool as it was.
+//!
+//! The archive is for one target (x86-64 Linux, unless yours was built for another) and needs `memcpy`, `memset` and some stack
+//! for a step: `include/hawsermole.h` gives the figure as `HM_STACK_BYTES`.
+#![no_std]
+#![deny(missing_docs, unsafe_op_in_unsafe_fn)]
+
+#[cfg(test)]
+extern crate std;
+
+mod input;
+mod machine;
+mod name;
+mod refusal;
+mod report;
+mod row;
+mod tool;
+pub mod words;
+
+pub use input::{Input, Parts};
+pub use machine::{REPORTS_BYTES, TOOL_BYTES};
+pub use name::{Name, NAME_BYTES};
+pub use refusal::Refusal;
+pub use report::{Model, Report, Reports, Subject, REPORTS};
+pub use row::{Argument, Row, ROWS};
+pub use tool::{Carrier, Port, Tool, CARRIERS, PORTS, SLOTS};

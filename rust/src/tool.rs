@@ -1,0 +1,270 @@
+//! The tool: ports, carriers and buffer, held as bytes.
+use crate::input::{Input, Parts};
+use crate::machine::{self, REPORTS_BYTES, TOOL_BYTES};
+use crate::name::{Name, NAME_BYTES};
+use crate::refusal::Refusal;
+use crate::report::Reports;
+use core::fmt;
+
+/// The most ports that a tool has.
+pub const PORTS: usize = 4;
+/// The most carrier records that a tool holds.
+pub const CARRIERS: usize = 36;
+/// The slots of a carrier.
+pub const SLOTS: usize = 25;
+
+pub(crate) const HEAD_BYTES: usize = 3;
+pub(crate) const PORT_BYTES: usize = 22;
+pub(crate) const CARRIER_BYTES: usize = 50;
+const CARRIERS_START: usize = HEAD_BYTES + PORTS * PORT_BYTES;
+
+/// A tool: its ports, its buffer and the carriers that it knows of.
+///
+/// A tool is its bytes. It may be cloned, kept in battery-backed memory and made again from what was kept: a damaged one isn't
+/// [sound](Tool::is_sound) and refuses every input with [`Refusal::OutOfRange`].
+///
+/// ```
+/// use hawsermole::{Input, Refusal, Tool};
+///
+/// let mut tool = Tool::setup(2, 16)?;
+/// tool.step(&Input::CarrierNotification { name: b"AB" })?;
+///
+/// let kept = *tool.as_bytes();
+/// assert_eq!(Tool::from_bytes(&kept), tool);
+///
+/// let mut damaged = kept;
+/// damaged[0] = 5;
+/// let mut damaged = Tool::from_bytes(&damaged);
+/// assert!(!damaged.is_sound());
+/// assert_eq!(damaged.step(&Input::LoadStart { port: 1 }), Err(Refusal::OutOfRange));
+/// # Ok::<(), Refusal>(())
+/// ```
+#[derive(Clone, PartialEq, Eq)]
+pub struct Tool {
+    bytes: [u8; TOOL_BYTES],
+}
+
+impl Tool {
+    /// A tool of 1 to 4 ports and 0 to 16 buffer places; anything else is refused. No places is a fixed buffer tool, where pods
+    /// open at the port; with places it is an internal buffer tool with one inner opener.
+    ///
+    /// ```
+    /// use hawsermole::{Refusal, Tool};
+    ///
+    /// assert!(Tool::setup(4, 16).unwrap().is_sound());
+    /// assert_eq!(Tool::setup(5, 0), Err(Refusal::OutOfRange));
+    /// assert_eq!(Tool::setup(1, 17), Err(Refusal::OutOfRange));
+    /// ```
+    pub fn setup(ports: u32, places: u32) -> Result<Tool, Refusal> {
+        let mut tool = Tool::none();
+        refused(machine::setup(&mut tool.bytes, ports, places))?;
+        Ok(tool)
+    }
+
+    /// No tool: all zeros, as a refused set-up leaves it. It isn't sound and refuses every input.
+    ///
+    /// ```
+    /// use hawsermole::{Input, Refusal, Tool};
+    ///
+    /// let mut none = Tool::none();
+    /// assert!(!none.is_sound());
+    /// assert_eq!(none.step(&Input::LoadStart { port: 1 }), Err(Refusal::OutOfRange));
+    /// ```
+    pub const fn none() -> Tool {
+        Tool { bytes: [0; TOOL_BYTES] }
+    }
+
+    /// A tool of any bytes, such as those that were kept from [`as_bytes`](Tool::as_bytes).
+    pub const fn from_bytes(bytes: &[u8; TOOL_BYTES]) -> Tool {
+        Tool { bytes: *bytes }
+    }
+
+    /// The tool's bytes: ports, places, records; 4 ports of 22 bytes; 36 carriers of 50 bytes.
+    pub const fn as_bytes(&self) -> &[u8; TOOL_BYTES] {
+        &self.bytes
+    }
+
+    /// One input. A refusal leaves the tool as it was.
+    pub fn step(&mut self, input: &Input<'_>) -> Result<Reports, Refusal> {
+        let Parts { number, port, value, name, codes } = input.parts();
+        self.step_raw(number, port, value, name, codes)
+    }
+
+    /// One input by its number, which may be any. Parts that its row doesn't name are ignored.
+    ///
+    /// ```
+    /// use hawsermole::{Refusal, Tool};
+    ///
+    /// let mut tool = Tool::setup(1, 0).unwrap();
+    /// assert_eq!(tool.step_raw(1, 1, 77, b"AB", b"ignored").unwrap().len(), 5);
+    /// assert_eq!(tool.step_raw(27, 1, 0, b"AB", b""), Err(Refusal::OutOfRange));
+    /// assert_eq!(tool.step_raw(13, 257, 0, b"", b""), Err(Refusal::OutOfRange));
+    /// ```
+    pub fn step_raw(
+        &mut self,
+        number: u32,
+        port: u32,
+        value: u32,
+        name: &[u8],
+        codes: &[u8],
+    ) -> Result<Reports, Refusal> {
+        let mut reports = [0; REPORTS_BYTES];
+        refused(machine::step(&mut self.bytes, &mut reports, (number, port, value), name, codes))?;
+        Ok(Reports::new(reports))
+    }
+
+    /// Whether every field is in its range and all of document 01's conditions on a state hold. A tool from a set-up is sound,
+    /// and every input leaves it so.
+    pub fn is_sound(&self) -> bool {
+        machine::sound(&self.bytes)
+    }
+
+    /// How many buffer places there are: B.
+    pub fn places(&self) -> u8 {
+        self.bytes[1]
+    }
+
+    /// The ports in use, by number.
+    ///
+    /// ```
+    /// let tool = hawsermole::Tool::setup(3, 0).unwrap();
+    /// assert_eq!(tool.ports().map(|port| port.number).collect::<Vec<_>>(), [1, 2, 3]);
+    /// ```
+    pub fn ports(&self) -> impl ExactSizeIterator<Item = Port> + '_ {
+        let used = usize::from(self.bytes[0]).min(PORTS);
+        (0..used).map(|place| {
+            Port::read(place as u8 + 1, &self.bytes[HEAD_BYTES + place * PORT_BYTES..][..PORT_BYTES])
+        })
+    }
+
+    /// The carriers that have a record, in the order in which the records were made.
+    ///
+    /// ```
+    /// use hawsermole::{Input, Tool};
+    ///
+    /// let mut tool = Tool::setup(1, 1).unwrap();
+    /// tool.step(&Input::CarrierNotification { name: b"B" }).unwrap();
+    /// tool.step(&Input::Bind { port: 1, name: b"A" }).unwrap();
+    /// let names: Vec<String> = tool.carriers().map(|carrier| carrier.name.to_string()).collect();
+    /// assert_eq!(names, ["B", "A"]);
+    /// assert_eq!(tool.carriers().last().unwrap().port, 1);
+    /// ```
+    pub fn carriers(&self) -> impl ExactSizeIterator<Item = Carrier> + '_ {
+        let count = usize::from(self.bytes[2]).min(CARRIERS);
+        (0..count)
+            .map(|place| Carrier::read(&self.bytes[CARRIERS_START + place * CARRIER_BYTES..][..CARRIER_BYTES]))
+    }
+}
+
+impl fmt::Debug for Tool {
+    fn fmt(&self, f: &mut fmt::Formatter<'_>) -> fmt::Result {
+        struct List<I>(core::cell::RefCell<I>);
+        impl<T: fmt::Debug, I: Iterator<Item = T>> fmt::Debug for List<I> {
+            fn fmt(&self, f: &mut fmt::Formatter<'_>) -> fmt::Result {
+                f.debug_list().entries(&mut *self.0.borrow_mut()).finish()
+            }
+        }
+        f.debug_struct("Tool")
+            .field("places", &self.places())
+            .field("ports", &List(self.ports().into()))
+            .field("carriers", &List(self.carriers().into()))
+            .finish()
+    }
+}
+
+/// The proved machine answers 0 to 8 and nothing else.
+fn refused(answer: u32) -> Result<(), Refusal> {
+    match answer {
+        0 => Ok(()),
+        _ => Err(Refusal::from_number(answer).expect("the machine answers 0 to 8")),
+    }
+}
+
+/// A port as the tool holds it. The numbers are document 01's; [`words`](crate::words) has E87's words for them.
+#[derive(Clone, Copy, Debug, PartialEq, Eq, Hash)]
+pub struct Port {
+    /// 1 to 4.
+    pub number: u8,
+    /// 0 OUT OF SERVICE, 1 READY TO LOAD, 2 READY TO UNLOAD, 3 TRANSFER BLOCKED.
+    pub transfer: u8,
+    /// 0 MANUAL, 1 AUTO.
+    pub access: u8,
+    /// 0 or 1.
+    pub reserved: u8,
+    /// The carrier that the port is tied to, or no name.
+    pub tie: Name,
+    /// 0 none, 1 loading, 2 unloading.
+    pub movement: u8,
+    /// Whether a pod is present: 0 or 1.
+    pub pod: u8,
+    /// 0 unread, 1 read, 2 failed.
+    pub tag: u8,
+}
+
+impl Port {
+    fn read(number: u8, bytes: &[u8]) -> Port {
+        Port {
+            number,
+            transfer: bytes[0],
+            access: bytes[1],
+            reserved: bytes[2],
+            tie: name_at(bytes, 3),
+            movement: bytes[19],
+            pod: bytes[20],
+            tag: bytes[21],
+        }
+    }
+}
+
+/// A carrier's record as the tool holds it. The numbers are document 01's; [`words`](crate::words) has E87's words for them.
+#[derive(Clone, Copy, Debug, PartialEq, Eq, Hash)]
+pub struct Carrier {
+    /// The name.
+    pub name: Name,
+    /// 0 expected, 1 port, 2 buffer.
+    pub place: u8,
+    /// The buffer place, or 0.
+    pub spot: u8,
+    /// The port that the carrier is tied to, or 0.
+    pub port: u8,
+    /// 0 or 1.
+    pub open: u8,
+    /// 0 or 1.
+    pub cancelled: u8,
+    /// 0 or 1: it came out of the buffer and may be called back in.
+    pub came_out: u8,
+    /// The codes of the slot map, all zero before it is read.
+    pub map: [u8; SLOTS],
+    /// 1 NOT READ, 2 WAITING FOR HOST, 3 OK, 4 FAILED.
+    pub id: u8,
+    /// 1 NOT READ, 2 WAITING FOR HOST, 3 OK, 4 FAILED.
+    pub slot: u8,
+    /// 1 NOT ACCESSED, 2 IN ACCESS, 3 COMPLETE, 4 STOPPED.
+    pub accessing: u8,
+}
+
+impl Carrier {
+    fn read(bytes: &[u8]) -> Carrier {
+        let mut map = [0; SLOTS];
+        map.copy_from_slice(&bytes[22..22 + SLOTS]);
+        Carrier {
+            name: name_at(bytes, 0),
+            place: bytes[16],
+            spot: bytes[17],
+            port: bytes[18],
+            open: bytes[19],
+            cancelled: bytes[20],
+            came_out: bytes[21],
+            map,
+            id: bytes[47],
+            slot: bytes[48],
+            accessing: bytes[49],
+        }
+    }
+}
+
+fn name_at(bytes: &[u8], start: usize) -> Name {
+    let mut name = [0; NAME_BYTES];
+    name.copy_from_slice(&bytes[start..start + NAME_BYTES]);
+    Name::new(name)
+}

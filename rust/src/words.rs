@@ -1,0 +1,135 @@
+//! E87's words for document 01's numbers, in one place for everybody who prints them.
+//!
+//! Where document 01 has no word for a number (only a tool that isn't sound holds such a number), the word is `out of range`.
+use crate::Model;
+
+const OUT: &str = "out of range";
+
+fn word(words: &[&'static str], number: u8) -> &'static str {
+    words.get(usize::from(number)).copied().unwrap_or(OUT)
+}
+
+/// A state model by name.
+pub const fn model(model: Model) -> &'static str {
+    match model {
+        Model::Transfer => "transfer state",
+        Model::Access => "access mode",
+        Model::Reservation => "reservation state",
+        Model::Tie => "association state",
+        Model::Id => "ID status",
+        Model::Slot => "slot map status",
+        Model::Accessing => "accessing status",
+    }
+}
+
+/// A port's transfer state, model 1.
+pub fn transfer(number: u8) -> &'static str {
+    word(&["OUT OF SERVICE", "READY TO LOAD", "READY TO UNLOAD", "TRANSFER BLOCKED"], number)
+}
+
+/// A port's access mode, model 2.
+pub fn access(number: u8) -> &'static str {
+    word(&["MANUAL", "AUTO"], number)
+}
+
+/// A port's reservation, model 3.
+pub fn reservation(number: u8) -> &'static str {
+    word(&["NOT RESERVED", "RESERVED"], number)
+}
+
+/// A port's tie, model 4.
+pub fn tie(number: u8) -> &'static str {
+    word(&["NOT ASSOCIATED", "ASSOCIATED"], number)
+}
+
+/// A carrier's ID status, model 5.
+pub fn id(number: u8) -> &'static str {
+    word(
+        &["no state", "ID NOT READ", "ID WAITING FOR HOST", "ID VERIFICATION OK", "ID VERIFICATION FAILED"],
+        number,
+    )
+}
+
+/// A carrier's slot map status, model 6.
+pub fn slot(number: u8) -> &'static str {
+    word(
+        &[
+            "no state",
+            "SLOT MAP NOT READ",
+            "SLOT MAP WAITING FOR HOST",
+            "SLOT MAP VERIFICATION OK",
+            "SLOT MAP VERIFICATION FAILED",
+        ],
+        number,
+    )
+}
+
+/// A carrier's accessing status, model 7.
+pub fn accessing(number: u8) -> &'static str {
+    word(&["no state", "NOT ACCESSED", "IN ACCESS", "CARRIER COMPLETE", "CARRIER STOPPED"], number)
+}
+
+/// A port's movement.
+pub fn movement(number: u8) -> &'static str {
+    word(&["idle", "loading", "unloading"], number)
+}
+
+/// A port's tag: what became of reading the pod's ID.
+pub fn tag(number: u8) -> &'static str {
+    word(&["unread", "read", "failed"], number)
+}
+
+/// A carrier's place.
+pub fn place(number: u8) -> &'static str {
+    word(&["expected", "at a port", "in the buffer"], number)
+}
+
+/// A code of a slot map.
+///
+/// ```
+/// assert_eq!(hawsermole::words::slot_code(3), "CORRECTLY OCCUPIED");
+/// assert_eq!(hawsermole::words::slot_code(6), "out of range");
+/// ```
+pub fn slot_code(number: u8) -> &'static str {
+    word(
+        &["UNDEFINED", "EMPTY", "NOT EMPTY", "CORRECTLY OCCUPIED", "DOUBLE SLOTTED", "CROSS SLOTTED"],
+        number,
+    )
+}
+
+#[cfg(test)]
+mod tests {
+    use super::*;
+
+    /// The last number that has a word, for each table.
+    #[test]
+    fn every_number_of_document_01_has_a_word() {
+        let tables: [(fn(u8) -> &'static str, u8); 11] = [
+            (transfer, 3),
+            (access, 1),
+            (reservation, 1),
+            (tie, 1),
+            (id, 4),
+            (slot, 4),
+            (accessing, 4),
+            (movement, 2),
+            (tag, 2),
+            (place, 2),
+            (slot_code, 5),
+        ];
+        for (table, last) in tables {
+            assert!((0..=last).all(|number| table(number) != OUT));
+            assert_eq!((table(last + 1), table(255)), (OUT, OUT));
+        }
+    }
+
+    #[test]
+    fn numbers_meet_their_words() {
+        assert_eq!((transfer(0), transfer(3)), ("OUT OF SERVICE", "TRANSFER BLOCKED"));
+        assert_eq!((transfer(1), transfer(2)), ("READY TO LOAD", "READY TO UNLOAD"));
+        assert_eq!((access(0), access(1)), ("MANUAL", "AUTO"));
+        assert_eq!((id(1), id(2)), ("ID NOT READ", "ID WAITING FOR HOST"));
+        assert_eq!((slot(3), slot(4)), ("SLOT MAP VERIFICATION OK", "SLOT MAP VERIFICATION FAILED"));
+        assert_eq!((accessing(2), accessing(4)), ("IN ACCESS", "CARRIER STOPPED"));
+    }
+}
