@@ -1,5 +1,7 @@
 //! The inputs, with document 01's names and arguments.
-use crate::row::{Row, ROWS};
+use crate::name::write_text;
+use crate::row::{Argument, Row, ROWS};
+use core::fmt;
 
 /// One input: document 01's 26 rows, with their arguments in its order.
 ///
@@ -198,5 +200,34 @@ impl<'a> Input<'a> {
     /// ```
     pub fn row(&self) -> &'static Row {
         &ROWS[self.number() as usize - 1]
+    }
+}
+
+/// The input in document 01's form, with `-` for an empty name: `Bind(1, AB)`, `SlotMap(AC, 25 codes)`.
+///
+/// ```
+/// use hawsermole::Input;
+///
+/// assert_eq!(Input::Bind { port: 1, name: b"AB" }.to_string(), "Bind(1, AB)");
+/// assert_eq!(Input::CancelBind { port: 2, name: b"" }.to_string(), "CancelBind(2, -)");
+/// assert_eq!(Input::SlotMap { name: b"AC", codes: &[3; 25] }.to_string(), "SlotMap(AC, 25 codes)");
+/// ```
+impl fmt::Display for Input<'_> {
+    fn fmt(&self, f: &mut fmt::Formatter<'_>) -> fmt::Result {
+        let (row, parts) = (self.row(), self.parts());
+        write!(f, "{}(", row.name)?;
+        for (place, argument) in row.arguments.iter().enumerate() {
+            f.write_str(if place == 0 { "" } else { ", " })?;
+            match argument {
+                Argument::Port | Argument::PortOrNone => write!(f, "{}", parts.port)?,
+                Argument::Name | Argument::NameOrNone if parts.name.is_empty() => f.write_str("-")?,
+                Argument::Name | Argument::NameOrNone => write_text(parts.name, f)?,
+                Argument::Codes => write!(f, "{} codes", parts.codes.len())?,
+                Argument::Access | Argument::Service | Argument::Place | Argument::End => {
+                    write!(f, "{}", parts.value)?
+                }
+            }
+        }
+        f.write_str(")")
     }
 }

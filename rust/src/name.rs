@@ -38,11 +38,22 @@ impl Name {
     }
 }
 
-/// The name as text; bytes that no name of a sound tool has are escaped.
+/// The name as text; a byte that no name of a sound tool has is written `\xNN`.
 impl fmt::Display for Name {
     fn fmt(&self, f: &mut fmt::Formatter<'_>) -> fmt::Result {
-        fmt::Display::fmt(&self.as_bytes().escape_ascii(), f)
+        write_text(self.as_bytes(), f)
     }
+}
+
+/// Any bytes as text: those that a name may have as they are, the others `\xNN`.
+pub(crate) fn write_text(bytes: &[u8], f: &mut fmt::Formatter<'_>) -> fmt::Result {
+    for &byte in bytes {
+        match byte {
+            0x21..=0x7E => write!(f, "{}", char::from(byte))?,
+            _ => write!(f, "\\x{byte:02x}")?,
+        }
+    }
+    Ok(())
 }
 
 impl fmt::Debug for Name {
@@ -79,6 +90,7 @@ mod tests {
     #[test]
     fn names_print_as_text() {
         assert_eq!(format!("{}", name(b"AB-7")), "AB-7");
+        assert_eq!(format!("{}", name(b"a'\"\\~!")), "a'\"\\~!");
         assert_eq!(format!("{}", name(b"A\x01\xff")), "A\\x01\\xff");
         assert_eq!(format!("{:?}", name(b"AB")), "Name(\"AB\")");
     }

@@ -150,6 +150,13 @@ impl Reports {
     }
 }
 
+/// No reports.
+impl Default for Reports {
+    fn default() -> Reports {
+        Reports::new([0; REPORTS_BYTES])
+    }
+}
+
 impl Iterator for Reports {
     type Item = Report;
 

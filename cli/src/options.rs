@@ -1,0 +1,137 @@
+//! What the command line asks for.
+use crate::script;
+use hawsermole::{Argument, ROWS};
+use std::ffi::{OsStr, OsString};
+use std::path::PathBuf;
+
+/// One line on how to call the program.
+pub const USAGE: &str = "usage: hawsermole [--explain] [FILE]   (hawsermole --help says more)";
+
+/// What to do.
+#[derive(Debug, PartialEq, Eq)]
+pub enum Options {
+    Help,
+    Version,
+    /// No file is standard input.
+    Play {
+        file: Option<PathBuf>,
+        explain: bool,
+    },
+}
+
+/// Reads the arguments; `Err` says what is wrong with them.
+pub fn read(arguments: impl Iterator<Item = OsString>) -> Result<Options, String> {
+    let (mut file, mut explain, mut only_files) = (None, false, false);
+    for argument in arguments {
+        let dashed = argument.as_encoded_bytes().starts_with(b"-") && argument != "-";
+        if only_files || !dashed {
+            if file.replace(argument).is_some() {
+                return Err("more than one FILE".into());
+            }
+            continue;
+        }
+        match argument.to_str() {
+            Some("--help") => return Ok(Options::Help),
+            Some("--version") => return Ok(Options::Version),
+            Some("--explain") => explain = true,
+            Some("--") => only_files = true,
+            _ => return Err(format!("unknown option '{}'", argument.display())),
+        }
+    }
+    let file = file.filter(|file| file.as_os_str() != OsStr::new("-")).map(PathBuf::from);
+    Ok(Options::Play { file, explain })
+}
+
+/// The text of `--help`.
+pub fn help() -> String {
+    let mut text = String::from(HELP);
+    for row in &ROWS {
+        text += &format!("  {:<44}{}\n", script::usage(row), row.text);
+    }
+    text += "\n";
+    for argument in [Argument::Access, Argument::Service, Argument::End, Argument::Codes] {
+        text += &format!("  {:<12}{}\n", argument.name().to_uppercase(), script::meaning(argument));
+    }
+    text + HELP_END
+}
+
+const HELP: &str = "\
+usage: hawsermole [--explain] [FILE]
+
+Plays a script of SEMI E87 inputs on the proved machine, line by line as it comes, from FILE or
+standard input (no FILE, or -).
+
+  --explain   adds lines in E87's words to each answer and report
+  --help      prints this
+  --version   prints the version
+
+A script has one command on each line, its words apart by spaces or tabs. An empty line, and one that
+begins with #, prints nothing.
+
+  setup P B                         a tool of P ports (1 to 4) and B buffer places (0 to 16)
+  in NUMBER PORT VALUE NAME CODES   an input by number; NAME and CODES in hex, - for none
+  dump                              the whole state, for programs
+  state                             the same, for people
+
+Inputs by name, with names as text:
+
+";
+
+const HELP_END: &str = "
+A PORT of 0 and a NAME of - mean \"not given\". Names may be any text: the machine refuses what no
+carrier can be called. A name that holds a space, or is a single -, is sent with in.
+
+setup prints   setup ANSWER
+in prints      ANSWER COUNT [MODEL SUBJECT OLD NEW; ..]   with names in hex
+a name prints  ANSWER  MODEL SUBJECT OLD>NEW; ..          or none
+dump prints    port I TRANSFER ACCESS RESERVED TIE MOVEMENT POD TAG
+               rec NAME PLACE SPOT PORT OPEN CANCELLED CAMEOUT MAP ID SLOT ACCESSING
+               end
+
+ANSWER is 0, accepted, or why it was refused, 1 to 8. Without a tool every input is answered 1.
+A line that can't be read ends the run with status 2.
+";
+
+#[cfg(test)]
+mod tests {
+    use super::*;
+
+    fn asked(arguments: &[&str]) -> Result<Options, String> {
+        read(arguments.iter().map(OsString::from))
+    }
+
+    fn play(file: Option<&str>, explain: bool) -> Result<Options, String> {
+        Ok(Options::Play { file: file.map(PathBuf::from), explain })
+    }
+
+    #[test]
+    fn files_and_standard_input() {
+        assert_eq!(asked(&[]), play(None, false));
+        assert_eq!(asked(&["-"]), play(None, false));
+        assert_eq!(asked(&["a"]), play(Some("a"), false));
+        assert_eq!(asked(&["--", "--explain"]), play(Some("--explain"), false));
+        assert_eq!(asked(&["a", "b"]), Err("more than one FILE".into()));
+        assert_eq!(asked(&["-", "-"]), Err("more than one FILE".into()));
+    }
+
+    #[test]
+    fn options_stand_anywhere() {
+        assert_eq!(asked(&["--explain", "a"]), play(Some("a"), true));
+        assert_eq!(asked(&["a", "--explain"]), play(Some("a"), true));
+        assert_eq!(asked(&["--help", "--nonsense"]), Ok(Options::Help));
+        assert_eq!(asked(&["--version"]), Ok(Options::Version));
+    }
+
+    #[test]
+    fn unknown_options_are_named() {
+        assert_eq!(asked(&["--expl"]), Err("unknown option '--expl'".into()));
+        assert_eq!(asked(&["-x"]), Err("unknown option '-x'".into()));
+        assert_eq!(asked(&["-x", "--help"]), Err("unknown option '-x'".into()));
+    }
+
+    #[test]
+    fn help_names_every_input() {
+        let help = help();
+        assert!(ROWS.iter().all(|row| help.contains(&format!("  {} ", row.name))));
+    }
+}
