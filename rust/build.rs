@@ -10,7 +10,9 @@ fn main() {
     println!("cargo:rerun-if-changed={}", archive.display());
     if !archive.is_file() {
         eprintln!("{ARCHIVE} is not in {}", folder.display());
-        eprintln!("build it with `make` at the root of the repository, or name its folder in HAWSERMOLE_LIB_DIR");
+        eprintln!(
+            "build it with `make` at the root of the repository, or name its folder in HAWSERMOLE_LIB_DIR"
+        );
         std::process::exit(1);
     }
     println!("cargo:rustc-link-search=native={}", folder.display());

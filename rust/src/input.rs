@@ -8,7 +8,10 @@ use core::fmt;
 /// A port, place or value is any 32-bit number, a name and codes are any bytes of any length: what is outside its range is
 /// answered with [`Refusal::OutOfRange`](crate::Refusal::OutOfRange), not cut. Port 0 and an empty name mean "not given", where
 /// the case says so.
-#[expect(missing_docs, reason = "each case says what its arguments are; a line for each would hide the table")]
+#[expect(
+    missing_docs,
+    reason = "each case says what its arguments are; a line for each would hide the table"
+)]
 #[derive(Clone, Copy, Debug, PartialEq, Eq, Hash)]
 pub enum Input<'a> {
     /// 1: associates an expected carrier with a port, and reserves the port.
@@ -229,5 +232,84 @@ impl fmt::Display for Input<'_> {
             }
         }
         f.write_str(")")
+    }
+}
+
+#[cfg(test)]
+mod tests {
+    use super::*;
+    use std::format;
+
+    const NAME: &[u8] = b"AB";
+
+    /// Each input, document 01's number, and its port, value, name and codes.
+    #[rustfmt::skip]
+    fn every_input() -> [(Input<'static>, u32, u32, u32, &'static [u8], &'static [u8]); 26] {
+        let (name, codes): (_, &[u8]) = (NAME, &[3; 25]);
+        [
+            (Input::Bind { port: 1, name }, 1, 1, 0, NAME, &[]),
+            (Input::CancelBind { port: 2, name }, 2, 2, 0, NAME, &[]),
+            (Input::CarrierNotification { name }, 3, 0, 0, NAME, &[]),
+            (Input::CancelCarrierNotification { name }, 4, 0, 0, NAME, &[]),
+            (Input::ProceedWithCarrier { name, port: 3 }, 5, 3, 0, NAME, &[]),
+            (Input::CancelCarrier { name, port: 4 }, 6, 4, 0, NAME, &[]),
+            (Input::CarrierOut { name, port: 5 }, 7, 5, 0, NAME, &[]),
+            (Input::CarrierIn { name }, 8, 0, 0, NAME, &[]),
+            (Input::ChangeAccess { port: 6, access: 60 }, 9, 6, 60, &[], &[]),
+            (Input::ChangeServiceStatus { port: 7, service: 70 }, 10, 7, 70, &[], &[]),
+            (Input::ReserveAtPort { port: 8 }, 11, 8, 0, &[], &[]),
+            (Input::CancelReservationAtPort { port: 9 }, 12, 9, 0, &[], &[]),
+            (Input::LoadStart { port: 10 }, 13, 10, 0, &[], &[]),
+            (Input::LoadDone { port: 11 }, 14, 11, 0, &[], &[]),
+            (Input::LoadFail { port: 12 }, 15, 12, 0, &[], &[]),
+            (Input::IdRead { port: 13, name }, 16, 13, 0, NAME, &[]),
+            (Input::IdReadFailed { port: 14 }, 17, 14, 0, &[], &[]),
+            (Input::MoveIn { port: 15, place: 150 }, 18, 15, 150, &[], &[]),
+            (Input::Open { name }, 19, 0, 0, NAME, &[]),
+            (Input::SlotMap { name, codes }, 20, 0, 0, NAME, codes),
+            (Input::AccessStart { name }, 21, 0, 0, NAME, &[]),
+            (Input::AccessEnd { name, end: 160 }, 22, 0, 160, NAME, &[]),
+            (Input::Close { name }, 23, 0, 0, NAME, &[]),
+            (Input::UnloadStart { port: u32::MAX }, 24, u32::MAX, 0, &[], &[]),
+            (Input::UnloadDone { port: 257 }, 25, 257, 0, &[], &[]),
+            (Input::UnloadFail { port: 0 }, 26, 0, 0, &[], &[]),
+        ]
+    }
+
+    #[test]
+    fn every_input_has_its_number_and_arguments() {
+        for (input, number, port, value, name, codes) in every_input() {
+            assert_eq!(input.parts(), Parts { number, port, value, name, codes });
+            assert_eq!(input.number(), number);
+            assert_eq!(Input::from_parts(&input.parts()), Some(input));
+        }
+    }
+
+    /// The derived text begins with the case's own name.
+    #[test]
+    fn every_input_has_its_rows_name() {
+        for (input, ..) in every_input() {
+            assert!(format!("{input:?}").starts_with(&format!("{} {{", input.row().name)));
+        }
+    }
+
+    #[test]
+    fn odd_numbers_are_no_input() {
+        for number in [0, 27, 255, 256, 257, u32::MAX] {
+            assert_eq!(Input::from_parts(&Parts { number, ..Parts::default() }), None);
+        }
+    }
+
+    #[test]
+    fn inputs_print_in_document_01s_form() {
+        assert_eq!(format!("{}", Input::MoveIn { port: 1, place: 4 }), "MoveIn(1, 4)");
+        assert_eq!(
+            format!("{}", Input::ProceedWithCarrier { name: NAME, port: 0 }),
+            "ProceedWithCarrier(AB, 0)"
+        );
+        assert_eq!(
+            format!("{}", Input::AccessEnd { name: b"a b\xff", end: 1 }),
+            "AccessEnd(a\\x20b\\xff, 1)"
+        );
     }
 }

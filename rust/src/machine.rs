@@ -55,17 +55,7 @@ pub fn step(
     // SAFETY: tool and reports are lent to the archive and apart from each other, and their sizes agree. A slice's pointer is
     // never null, also when it is empty, and the archive reads no further than the length that goes with it.
     unsafe {
-        hm_step(
-            tool,
-            reports,
-            number,
-            port,
-            value,
-            name.as_ptr(),
-            name_length,
-            codes.as_ptr(),
-            codes_length,
-        )
+        hm_step(tool, reports, number, port, value, name.as_ptr(), name_length, codes.as_ptr(), codes_length)
     }
 }
 

@@ -49,6 +49,8 @@ pub struct Row {
     pub arguments: &'static [Argument],
     /// What it means, in a few words.
     pub text: &'static str,
+    /// The row's conditions on state, which refusal 5 speaks of; none where the row has no such refusal.
+    pub conditions: Option<&'static str>,
 }
 
 impl Row {
@@ -80,38 +82,110 @@ impl Row {
     }
 }
 
+use Argument::{Access, Codes, End, Name, NameOrNone, Place, Port, PortOrNone, Service};
+
 const fn row(number: u32, name: &'static str, arguments: &'static [Argument], text: &'static str) -> Row {
-    Row { number, name, arguments, text }
+    Row { number, name, arguments, text, conditions: None }
 }
 
-use Argument::{Access, Codes, End, Name, NameOrNone, Place, Port, PortOrNone, Service};
+impl Row {
+    const fn needs(self, conditions: &'static str) -> Row {
+        Row { conditions: Some(conditions), ..self }
+    }
+}
 
 /// The 26 rows, by number.
 pub const ROWS: [Row; 26] = [
-    row(1, "Bind", &[Port, Name], "associate an expected carrier with a port and reserve the port"),
-    row(2, "CancelBind", &[PortOrNone, NameOrNone], "take a Bind back"),
+    row(1, "Bind", &[Port, Name], "associate an expected carrier with a port and reserve the port")
+        .needs("the port READY TO LOAD"),
+    row(2, "CancelBind", &[PortOrNone, NameOrNone], "take a Bind back")
+        .needs("what is given means one tied pair, the carrier expected and the port idle"),
     row(3, "CarrierNotification", &[Name], "announce a carrier"),
-    row(4, "CancelCarrierNotification", &[Name], "take an announcement back"),
-    row(5, "ProceedWithCarrier", &[Name, PortOrNone], "the host accepts the ID, or else the slot map"),
-    row(6, "CancelCarrier", &[Name, PortOrNone], "the host rejects the carrier"),
-    row(7, "CarrierOut", &[Name, Port], "a carrier comes from the buffer to a port"),
-    row(8, "CarrierIn", &[Name], "a carrier that came out is called back in"),
-    row(9, "ChangeAccess", &[Port, Access], "set the access mode"),
-    row(10, "ChangeServiceStatus", &[Port, Service], "take a port out of service or put it in service"),
-    row(11, "ReserveAtPort", &[Port], "reserve a port"),
-    row(12, "CancelReservationAtPort", &[Port], "end a port's reservation"),
-    row(13, "LoadStart", &[Port], "a pod starts to arrive"),
-    row(14, "LoadDone", &[Port], "the pod has arrived"),
-    row(15, "LoadFail", &[Port], "the pod didn't arrive"),
-    row(16, "IdRead", &[Port, Name], "the pod's tag was read"),
-    row(17, "IdReadFailed", &[Port], "the pod's tag couldn't be read"),
-    row(18, "MoveIn", &[Port, Place], "the pod goes from the port into the buffer"),
-    row(19, "Open", &[Name], "open a carrier"),
-    row(20, "SlotMap", &[Name, Codes], "the slot map was read"),
-    row(21, "AccessStart", &[Name], "access to the wafers starts"),
-    row(22, "AccessEnd", &[Name, End], "access to the wafers is over"),
-    row(23, "Close", &[Name], "close a carrier"),
-    row(24, "UnloadStart", &[Port], "a pod starts to leave"),
-    row(25, "UnloadDone", &[Port], "the pod has left"),
-    row(26, "UnloadFail", &[Port], "the pod didn't leave"),
+    row(4, "CancelCarrierNotification", &[Name], "take an announcement back")
+        .needs("the carrier expected and untied"),
+    row(5, "ProceedWithCarrier", &[Name, PortOrNone], "the host accepts the ID, or else the slot map").needs(
+        "of a placed carrier, no port given but its own, and the ID or else the slot map WAITING FOR HOST; \
+         of an expected one, no tie, and at the given port an unknown pod",
+    ),
+    row(6, "CancelCarrier", &[Name, PortOrNone], "the host rejects the carrier").needs(
+        "of a placed carrier, no port given but its own, not IN ACCESS, and its port idle; \
+         of an expected one, no tie, and at the given port an unknown pod",
+    ),
+    row(7, "CarrierOut", &[Name, Port], "a carrier comes from the buffer to a port")
+        .needs("the carrier in the buffer, closed and not IN ACCESS, and the port READY TO LOAD"),
+    row(8, "CarrierIn", &[Name], "a carrier that came out is called back in")
+        .needs("the carrier come out and at a port READY TO UNLOAD"),
+    row(9, "ChangeAccess", &[Port, Access], "set the access mode").needs("the port idle"),
+    row(10, "ChangeServiceStatus", &[Port, Service], "take a port out of service or put it in service")
+        .needs("the port READY TO LOAD"),
+    row(11, "ReserveAtPort", &[Port], "reserve a port").needs("the port READY TO LOAD"),
+    row(12, "CancelReservationAtPort", &[Port], "end a port's reservation").needs("the port RESERVED"),
+    row(13, "LoadStart", &[Port], "a pod starts to arrive").needs("the port READY TO LOAD"),
+    row(14, "LoadDone", &[Port], "the pod has arrived").needs("the port loading"),
+    row(15, "LoadFail", &[Port], "the pod didn't arrive").needs("the port loading"),
+    row(16, "IdRead", &[Port, Name], "the pod's tag was read")
+        .needs("a pod present, the port idle, the tag unread"),
+    row(17, "IdReadFailed", &[Port], "the pod's tag couldn't be read")
+        .needs("a pod present, the port idle, the tag unread"),
+    row(18, "MoveIn", &[Port, Place], "the pod goes from the port into the buffer")
+        .needs("a pod present, the port idle and TRANSFER BLOCKED"),
+    row(19, "Open", &[Name], "open a carrier").needs(
+        "the carrier closed, NOT ACCESSED and in the buffer, or, where there is no buffer, \
+         at a port that is idle and TRANSFER BLOCKED",
+    ),
+    row(20, "SlotMap", &[Name, Codes], "the slot map was read").needs("the carrier open, SLOT MAP NOT READ"),
+    row(21, "AccessStart", &[Name], "access to the wafers starts").needs("the carrier open and NOT ACCESSED"),
+    row(22, "AccessEnd", &[Name, End], "access to the wafers is over").needs("the carrier IN ACCESS"),
+    row(23, "Close", &[Name], "close a carrier").needs("the carrier open and not IN ACCESS"),
+    row(24, "UnloadStart", &[Port], "a pod starts to leave").needs("the port READY TO UNLOAD"),
+    row(25, "UnloadDone", &[Port], "the pod has left").needs("the port unloading"),
+    row(26, "UnloadFail", &[Port], "the pod didn't leave").needs("the port unloading"),
 ];
+
+#[cfg(test)]
+mod tests {
+    use super::*;
+    use crate::{Input, Parts};
+
+    /// Every part given: what an input keeps of them is what its row names.
+    const FULL: Parts<'static> = Parts { number: 0, port: 3, value: 9, name: b"N", codes: b"C" };
+
+    fn named_parts(row: &Row) -> Parts<'static> {
+        let mut parts = Parts { number: row.number, ..Parts::default() };
+        for argument in row.arguments {
+            match argument.name() {
+                "port" => parts.port = FULL.port,
+                "name" => parts.name = FULL.name,
+                "codes" => parts.codes = FULL.codes,
+                _ => parts.value = FULL.value,
+            }
+        }
+        parts
+    }
+
+    #[test]
+    fn rows_stand_by_number_and_names_differ() {
+        for (place, row) in ROWS.iter().enumerate() {
+            assert_eq!(row.number as usize, place + 1);
+            assert_eq!(Row::numbered(row.number), Some(row));
+            assert_eq!(Row::named(row.name), Some(row));
+        }
+    }
+
+    #[test]
+    fn rows_name_the_arguments_of_their_inputs() {
+        for row in &ROWS {
+            let input = Input::from_parts(&Parts { number: row.number, ..FULL }).unwrap();
+            assert_eq!(input.parts(), named_parts(row), "{}", row.name);
+            assert_eq!(input.row(), row);
+        }
+    }
+
+    /// Row 3 alone has no refusal 5.
+    #[test]
+    fn conditions_stand_where_a_row_has_refusal_5() {
+        for row in &ROWS {
+            assert_eq!(row.conditions.is_none(), row.number == 3, "{}", row.name);
+        }
+    }
+}

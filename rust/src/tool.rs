@@ -151,23 +151,18 @@ impl Tool {
     /// ```
     pub fn carriers(&self) -> impl ExactSizeIterator<Item = Carrier> + '_ {
         let count = usize::from(self.bytes[2]).min(CARRIERS);
-        (0..count)
-            .map(|place| Carrier::read(&self.bytes[CARRIERS_START + place * CARRIER_BYTES..][..CARRIER_BYTES]))
+        (0..count).map(|place| {
+            Carrier::read(&self.bytes[CARRIERS_START + place * CARRIER_BYTES..][..CARRIER_BYTES])
+        })
     }
 }
 
 impl fmt::Debug for Tool {
     fn fmt(&self, f: &mut fmt::Formatter<'_>) -> fmt::Result {
-        struct List<I>(core::cell::RefCell<I>);
-        impl<T: fmt::Debug, I: Iterator<Item = T>> fmt::Debug for List<I> {
-            fn fmt(&self, f: &mut fmt::Formatter<'_>) -> fmt::Result {
-                f.debug_list().entries(&mut *self.0.borrow_mut()).finish()
-            }
-        }
         f.debug_struct("Tool")
             .field("places", &self.places())
-            .field("ports", &List(self.ports().into()))
-            .field("carriers", &List(self.carriers().into()))
+            .field("ports", &fmt::from_fn(|f| f.debug_list().entries(self.ports()).finish()))
+            .field("carriers", &fmt::from_fn(|f| f.debug_list().entries(self.carriers()).finish()))
             .finish()
     }
 }
@@ -267,4 +262,97 @@ fn name_at(bytes: &[u8], start: usize) -> Name {
     let mut name = [0; NAME_BYTES];
     name.copy_from_slice(&bytes[start..start + NAME_BYTES]);
     Name::new(name)
+}
+
+#[cfg(test)]
+mod tests {
+    use super::*;
+    use std::format;
+    use std::vec::Vec;
+
+    /// Each byte is its own place, as far as a byte reaches, so that a field read from a wrong place shows.
+    fn numbered_bytes() -> Tool {
+        let mut bytes = [0; TOOL_BYTES];
+        for (place, byte) in bytes.iter_mut().enumerate() {
+            *byte = (place % 251) as u8 + 1;
+        }
+        Tool::from_bytes(&bytes)
+    }
+
+    fn byte(place: usize) -> u8 {
+        (place % 251) as u8 + 1
+    }
+
+    #[test]
+    fn ports_are_read_where_they_stand() {
+        let mut tool = numbered_bytes();
+        tool.bytes[0] = 4;
+        let ports: Vec<Port> = tool.ports().collect();
+        assert_eq!(ports.len(), 4);
+        for (place, port) in ports.into_iter().enumerate() {
+            let start = 3 + 22 * place;
+            let flags = [port.transfer, port.access, port.reserved];
+            assert_eq!(flags, [byte(start), byte(start + 1), byte(start + 2)]);
+            assert_eq!(port.tie.as_bytes(), &tool.bytes[start + 3..start + 19]);
+            let rest = [port.movement, port.pod, port.tag];
+            assert_eq!(rest, [byte(start + 19), byte(start + 20), byte(start + 21)]);
+            assert_eq!(usize::from(port.number), place + 1);
+        }
+    }
+
+    #[test]
+    fn carriers_are_read_where_they_stand() {
+        let mut tool = numbered_bytes();
+        tool.bytes[2] = 36;
+        let carriers: Vec<Carrier> = tool.carriers().collect();
+        assert_eq!(carriers.len(), 36);
+        for (place, c) in carriers.into_iter().enumerate() {
+            let start = 91 + 50 * place;
+            assert_eq!(c.name.as_bytes(), &tool.bytes[start..start + 16]);
+            let flags = [c.place, c.spot, c.port, c.open, c.cancelled, c.came_out];
+            assert_eq!(flags, [16, 17, 18, 19, 20, 21].map(|offset| byte(start + offset)));
+            assert_eq!(c.map, tool.bytes[start + 22..start + 47]);
+            assert_eq!([c.id, c.slot, c.accessing], [47, 48, 49].map(|offset| byte(start + offset)));
+        }
+    }
+
+    /// A tool of any bytes can be looked at, however many ports and records it claims.
+    #[test]
+    fn counts_past_the_tables_are_not_followed() {
+        let tool = Tool::from_bytes(&[255; TOOL_BYTES]);
+        assert_eq!((tool.ports().len(), tool.carriers().len()), (PORTS, CARRIERS));
+        assert_eq!(tool.ports().chain(tool.ports()).count(), 8);
+        assert!(!tool.is_sound());
+    }
+
+    #[test]
+    fn a_refusal_leaves_the_tool_as_it_was() {
+        let mut tool = Tool::setup(1, 0).unwrap();
+        tool.step(&Input::Bind { port: 1, name: b"AB" }).unwrap();
+        let before = tool.clone();
+        assert_eq!(tool.step(&Input::Bind { port: 1, name: b"AB" }), Err(Refusal::NameTaken));
+        assert_eq!(tool, before);
+    }
+
+    #[test]
+    fn set_ups_of_every_size() {
+        for (ports, places) in (0..=6).flat_map(|ports| (0..=18).map(move |places| (ports, places))) {
+            let valid = (1..=4).contains(&ports) && places <= 16;
+            match Tool::setup(ports, places) {
+                Ok(tool) => assert!(valid && tool.is_sound() && tool.ports().len() as u32 == ports),
+                Err(refusal) => assert!(!valid && refusal == Refusal::OutOfRange),
+            }
+        }
+        assert_eq!(Tool::setup(257, 0), Err(Refusal::OutOfRange));
+        assert_eq!(Tool::setup(1, 256), Err(Refusal::OutOfRange));
+    }
+
+    #[test]
+    fn debug_text_shows_ports_and_carriers() {
+        let mut tool = Tool::setup(1, 2).unwrap();
+        tool.step(&Input::CarrierNotification { name: b"AB" }).unwrap();
+        let text = format!("{tool:?}");
+        assert!(text.starts_with("Tool { places: 2, ports: [Port { number: 1, transfer: 1,"), "{text}");
+        assert!(text.contains("carriers: [Carrier { name: Name(\"AB\")"), "{text}");
+    }
 }
