@@ -8,6 +8,7 @@ mod player;
 mod print;
 mod run;
 mod script;
+mod values;
 
 use options::Options;
 use std::io::{self, Write};
@@ -29,9 +30,9 @@ fn main() -> ExitCode {
 }
 
 fn say(text: &str) -> ExitCode {
-    match io::stdout().write_all(text.as_bytes()) {
-        Ok(()) => ExitCode::SUCCESS,
-        Err(error) => fail(&format!("standard output: {error}")),
+    match run::send(&mut io::stdout(), text) {
+        Ok(_) => ExitCode::SUCCESS,
+        Err(message) => fail(&message),
     }
 }
 

@@ -1,6 +1,6 @@
 //! What the command line asks for.
-use crate::script;
-use hawsermole::{Argument, ROWS};
+use crate::{script, values};
+use hawsermole::ROWS;
 use std::ffi::{OsStr, OsString};
 use std::path::PathBuf;
 
@@ -46,11 +46,15 @@ pub fn read(arguments: impl Iterator<Item = OsString>) -> Result<Options, String
 pub fn help() -> String {
     let mut text = String::from(HELP);
     for row in &ROWS {
-        text += &format!("  {:<44}{}\n", script::usage(row), row.text);
+        text += &format!("  {:<35}{}\n", script::usage(row), row.text);
     }
-    text += "\n";
-    for argument in [Argument::Access, Argument::Service, Argument::End, Argument::Codes] {
-        text += &format!("  {:<12}{}\n", argument.name().to_uppercase(), script::meaning(argument));
+    for (word, meaning) in [
+        ("ACCESS", "0 MANUAL, 1 AUTO"),
+        ("SERVICE", "0 out of service, 1 in service"),
+        ("END", "0 complete, 1 stopped"),
+        ("CODES", values::CODES),
+    ] {
+        text += &format!("\n  {word:<10}{meaning}");
     }
     text + HELP_END
 }
@@ -78,6 +82,7 @@ Inputs by name, with names as text:
 ";
 
 const HELP_END: &str = "
+
 A PORT of 0 and a NAME of - mean \"not given\". Names may be any text: the machine refuses what no
 carrier can be called. A name that holds a space, or is a single -, is sent with in.
 

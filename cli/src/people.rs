@@ -61,3 +61,57 @@ fn place(carrier: &Carrier) -> String {
         _ => format!("in buffer place {}", carrier.spot),
     }
 }
+
+#[cfg(test)]
+mod tests {
+    use super::*;
+    use hawsermole::Input;
+
+    fn after(ports: u32, places: u32, inputs: &[Input]) -> String {
+        let mut tool = Tool::setup(ports, places).unwrap();
+        for input in inputs {
+            tool.step(input).unwrap();
+        }
+        state(&tool)
+    }
+
+    #[test]
+    fn no_tool() {
+        assert_eq!(state(&Tool::none()), "there is no tool: set one up with setup P B\n");
+    }
+
+    #[test]
+    fn an_empty_tool() {
+        let port = "READY TO LOAD, MANUAL, NOT RESERVED, NOT ASSOCIATED, idle, no pod";
+        assert_eq!(after(1, 0, &[]), format!("fixed buffer tool, 1 port\nport 1: {port}\nno carriers\n"));
+    }
+
+    #[test]
+    fn carriers_by_place() {
+        let bound =
+            after(1, 2, &[Input::Bind { port: 1, name: b"AB" }, Input::CarrierNotification { name: b"C" }]);
+        assert!(bound.contains("RESERVED, ASSOCIATED with AB, idle, no pod\n"), "{bound}");
+        assert!(bound.contains("carrier AB: expected at port 1, closed, ID NOT READ, SLOT MAP NOT READ"));
+        assert!(bound.contains("carrier C: expected, closed, ID NOT READ"));
+    }
+
+    #[test]
+    fn a_carrier_from_port_to_buffer_and_out() {
+        let (name, codes) = (b"AB", [3; 25]);
+        let mut inputs =
+            vec![Input::LoadStart { port: 1 }, Input::LoadDone { port: 1 }, Input::IdReadFailed { port: 1 }];
+        assert!(after(1, 2, &inputs).contains("idle, pod present, tag failed\n"));
+        inputs.push(Input::ProceedWithCarrier { name, port: 1 });
+        assert!(after(1, 2, &inputs).contains("carrier AB: at port 1, closed, ID VERIFICATION OK"));
+        inputs.extend([
+            Input::MoveIn { port: 1, place: 2 },
+            Input::Open { name },
+            Input::SlotMap { name, codes: &codes },
+        ]);
+        let open = "carrier AB: in buffer place 2, open, ID VERIFICATION OK, SLOT MAP WAITING FOR HOST, NOT ACCESSED, \
+                    slot map 3333333333333333333333333\n";
+        assert!(after(1, 2, &inputs).ends_with(open));
+        inputs.extend([Input::CancelCarrier { name, port: 0 }, Input::CarrierOut { name, port: 1 }]);
+        assert!(after(1, 2, &inputs).contains("NOT ACCESSED, cancelled, came out, slot map 3"));
+    }
+}

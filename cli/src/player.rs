@@ -56,3 +56,36 @@ impl Player {
         }
     }
 }
+
+#[cfg(test)]
+mod tests {
+    use super::*;
+    use crate::script;
+
+    fn played(explain: bool, lines: &[&str]) -> String {
+        let mut player = Player::new(explain);
+        lines.iter().map(|line| player.play(&script::read(line.as_bytes()).unwrap())).collect()
+    }
+
+    #[test]
+    fn without_a_tool_every_input_is_answered_1() {
+        let lines = ["dump", "Bind 1 AB", "in 13 1 0 - -", "state"];
+        let expected = "end\n1  none\n1 0 []\nthere is no tool: set one up with setup P B\n";
+        assert_eq!(played(false, &lines), expected);
+    }
+
+    #[test]
+    fn a_refused_set_up_takes_the_tool_away() {
+        let lines =
+            ["setup 2 0", "LoadStart 1", "setup 0 0", "LoadDone 1", "dump", "setup 1 0", "LoadStart 1"];
+        let expected = "setup 0\n0  1 1 1>3\nsetup 1\n1  none\nend\nsetup 0\n0  1 1 1>3\n";
+        assert_eq!(played(false, &lines), expected);
+    }
+
+    #[test]
+    fn explanations_stand_below_the_answer() {
+        let expected = "setup 0\n  accepted: fixed buffer tool, 1 port\n0 1 [1 1 1 3]\n  \
+                        LoadStart(1): a pod starts to arrive\n  accepted\n  port 1: READY TO LOAD to TRANSFER BLOCKED\n";
+        assert_eq!(played(true, &["# a comment", "setup 1 0", "in 13 1 0 - -"]), expected);
+    }
+}

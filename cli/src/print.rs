@@ -82,3 +82,78 @@ fn hex(bytes: &[u8]) -> String {
         _ => bytes.iter().map(|byte| format!("{byte:02x}")).collect(),
     }
 }
+
+#[cfg(test)]
+mod tests {
+    use super::*;
+    use hawsermole::Input;
+
+    fn tool(ports: u32, places: u32, inputs: &[Input]) -> Tool {
+        let mut tool = Tool::setup(ports, places).unwrap();
+        for input in inputs {
+            tool.step(input).unwrap();
+        }
+        tool
+    }
+
+    const BIND: Input = Input::Bind { port: 1, name: b"AB" };
+
+    #[test]
+    fn accepted_answers_in_both_forms() {
+        let given = tool(1, 0, &[]).step(&BIND);
+        let by_number = "0 5 [3 1 0 1; 4 1 0 1; 5 4142 0 1; 6 4142 0 1; 7 4142 0 1]\n";
+        assert_eq!(numbered(&given), by_number);
+        assert_eq!(named(&given), "0  3 1 0>1; 4 1 0>1; 5 AB 0>1; 6 AB 0>1; 7 AB 0>1\n");
+    }
+
+    #[test]
+    fn answers_without_reports_in_both_forms() {
+        let refused = tool(1, 0, &[]).step(&Input::Open { name: b"AB" });
+        assert_eq!((numbered(&refused), named(&refused)), ("2 0 []\n".into(), "2  none\n".into()));
+        let accepted = tool(1, 0, &[Input::LoadStart { port: 1 }]).step(&Input::LoadDone { port: 1 });
+        assert_eq!((numbered(&accepted), named(&accepted)), ("0 0 []\n".into(), "0  none\n".into()));
+    }
+
+    #[test]
+    fn names_print_as_they_were_sent() {
+        let given = tool(1, 0, &[]).step(&Input::CarrierNotification { name: br#"a'"\~!"# });
+        assert!(named(&given).starts_with(r#"0  5 a'"\~! 0>1"#));
+        assert!(numbered(&given).starts_with("0 3 [5 6127225c7e21 0 1;"));
+    }
+
+    #[test]
+    fn dumps() {
+        assert_eq!(dump(&Tool::none()), "end\n");
+        assert_eq!(dump(&tool(2, 3, &[])), "port 1 1 0 0 - 0 0 0\nport 2 1 0 0 - 0 0 0\nend\n");
+        let bound = tool(1, 0, &[BIND, Input::LoadStart { port: 1 }]);
+        assert_eq!(dump(&bound), "port 1 3 0 0 4142 1 0 0\nrec 4142 0 0 1 0 0 0 - 1 1 1\nend\n");
+    }
+
+    /// Every field of the two lines differs from its neighbours where its range allows it.
+    #[test]
+    fn dumps_of_a_buffer() {
+        let (name, mut codes) = (b"AB", [3; 25]);
+        codes[24] = 5;
+        let read = Input::IdRead { port: 1, name };
+        let moved = [Input::LoadStart { port: 1 }, Input::LoadDone { port: 1 }, read];
+        let mut tool = tool(1, 9, &moved);
+        for input in [
+            Input::ProceedWithCarrier { name, port: 1 },
+            Input::MoveIn { port: 1, place: 9 },
+            Input::Open { name },
+            Input::SlotMap { name, codes: &codes },
+            Input::ChangeAccess { port: 1, access: 1 },
+        ] {
+            tool.step(&input).unwrap();
+        }
+        let map = "03".repeat(24) + "05";
+        let expected = format!("port 1 1 1 0 - 0 0 0\nrec 4142 2 9 0 1 0 0 {map} 3 2 1\nend\n");
+        assert_eq!(dump(&tool), expected);
+    }
+
+    #[test]
+    fn hex_is_lower_case() {
+        assert_eq!((hex(&[0x0a, 0xff]), hex(&[])), ("0aff".into(), "-".into()));
+        assert_eq!((map(&[0; 25]), map(&[0, 1])), ("-".into(), "0001".into()));
+    }
+}

@@ -1,4 +1,5 @@
 //! The reader of lines: what each line of a script asks for.
+use crate::values::{self, shown, Words};
 use hawsermole::{Argument, Parts, Row, ROWS};
 
 /// What a line asks for.
@@ -29,6 +30,7 @@ pub struct Sent {
 }
 
 impl Sent {
+    /// The input as the machine takes it.
     pub fn parts(&self) -> Parts<'_> {
         let Sent { number, port, value, .. } = *self;
         Parts { number, port, value, name: &self.name, codes: &self.codes }
@@ -37,59 +39,59 @@ impl Sent {
 
 const SETUP: &str = "setup P B";
 const IN: &str = "in NUMBER PORT VALUE NAME CODES";
-const NUMBER: &str = "a number from 0 to 4294967295";
-const HEX: &str = "pairs of hex digits, or - for none";
-const CODES: &str = "25 digits, one for each slot, or pairs of hex digits, or - for none";
+const DUMP: &str = "dump";
+const STATE: &str = "state";
 
-/// Reads a line, with or without its end of line. `Err` says what is wrong with it.
+/// Reads a line, with or without its end. `Err` says what is wrong with it.
 pub fn read(line: &[u8]) -> Result<Command, String> {
     let mut words = Words::of(line);
-    let Some(first) = words.next() else { return Ok(Command::Nothing) };
-    if first.starts_with(b"#") {
-        return Ok(Command::Nothing);
+    match words.next() {
+        None => Ok(Command::Nothing),
+        Some([b'#', ..]) => Ok(Command::Nothing),
+        Some(b"setup") => read_setup(words),
+        Some(b"in") => read_in(words),
+        Some(b"dump") => words.end(DUMP).map(|()| Command::Dump),
+        Some(b"state") => words.end(STATE).map(|()| Command::State),
+        Some(first) => read_named(first, words),
     }
-    let command = match first {
-        b"setup" => read_setup(&mut words)?,
-        b"in" => read_in(&mut words)?,
-        b"dump" => Command::Dump,
-        b"state" => Command::State,
-        _ => read_named(first, &mut words)?,
-    };
-    words.end(first)?;
-    Ok(command)
 }
 
-fn read_setup(words: &mut Words) -> Result<Command, String> {
-    let ports = number("ports", words.argument("ports", SETUP)?)?;
-    let places = number("places", words.argument("places", SETUP)?)?;
+fn read_setup(mut words: Words) -> Result<Command, String> {
+    let ports = values::number("ports", words.argument("number of ports", SETUP)?)?;
+    let places = values::number("places", words.argument("number of buffer places", SETUP)?)?;
+    words.end(SETUP)?;
     Ok(Command::Setup { ports, places })
 }
 
-fn read_in(words: &mut Words) -> Result<Command, String> {
-    Ok(Command::In(Sent {
-        number: number("number", words.argument("number", IN)?)?,
-        port: number("port", words.argument("port", IN)?)?,
-        value: number("value", words.argument("value", IN)?)?,
-        name: hex("name", words.argument("name", IN)?)?,
-        codes: hex("codes", words.argument("codes", IN)?)?,
-    }))
+fn read_in(mut words: Words) -> Result<Command, String> {
+    let sent = Sent {
+        number: values::number("number", words.argument("number", IN)?)?,
+        port: values::number("port", words.argument("port", IN)?)?,
+        value: values::number("value", words.argument("value", IN)?)?,
+        name: values::hex("name", words.argument("name", IN)?)?,
+        codes: values::hex("codes", words.argument("codes", IN)?)?,
+    };
+    words.end(IN)?;
+    Ok(Command::In(sent))
 }
 
-fn read_named(first: &[u8], words: &mut Words) -> Result<Command, String> {
+fn read_named(first: &[u8], mut words: Words) -> Result<Command, String> {
     let row = ROWS.iter().find(|row| row.name.as_bytes() == first).ok_or_else(|| unknown(first))?;
     let usage = usage(row);
     let mut sent = Sent { number: row.number, ..Sent::default() };
     for argument in row.arguments {
-        let word = words.argument(argument.name(), &usage)?;
+        let what = argument.name();
+        let word = words.argument(what, &usage)?;
         match argument {
-            Argument::Port | Argument::PortOrNone => sent.port = number(argument.name(), word)?,
-            Argument::Name | Argument::NameOrNone => sent.name = text(word),
-            Argument::Codes => sent.codes = codes(word)?,
+            Argument::Port | Argument::PortOrNone => sent.port = values::number(what, word)?,
+            Argument::Name | Argument::NameOrNone => sent.name = values::text(word),
+            Argument::Codes => sent.codes = values::codes(what, word)?,
             Argument::Access | Argument::Service | Argument::Place | Argument::End => {
-                sent.value = number(argument.name(), word)?
+                sent.value = values::number(what, word)?
             }
         }
     }
+    words.end(&usage)?;
     Ok(Command::Named(sent))
 }
 
@@ -103,103 +105,127 @@ pub fn usage(row: &Row) -> String {
     usage
 }
 
-/// What an argument's numbers mean, for those that have a meaning of their own.
-pub fn meaning(argument: Argument) -> &'static str {
-    match argument {
-        Argument::Access => "0 MANUAL, 1 AUTO",
-        Argument::Service => "0 out of service, 1 in service",
-        Argument::End => "0 complete, 1 stopped",
-        Argument::Codes => CODES,
-        Argument::Place => "a buffer place, 1 to B",
-        Argument::Port | Argument::PortOrNone => "a port, 1 to P",
-        Argument::Name | Argument::NameOrNone => "a carrier's name",
+fn unknown(word: &[u8]) -> String {
+    let mut known = ["setup", "in", "dump", "state"].into_iter().chain(ROWS.iter().map(|row| row.name));
+    match known.find(|known| known.as_bytes().eq_ignore_ascii_case(word)) {
+        Some(near) => format!("unknown word '{}': it is written {near}", shown(word)),
+        None => format!(
+            "unknown word '{}': expected setup, in, dump, state or an input's name such as Bind",
+            shown(word)
+        ),
     }
 }
 
-/// The words of a line, apart by spaces or tabs.
-struct Words<'a> {
-    words: Box<dyn Iterator<Item = &'a [u8]> + 'a>,
-}
+#[cfg(test)]
+mod tests {
+    use super::*;
 
-impl<'a> Words<'a> {
-    fn of(line: &'a [u8]) -> Words<'a> {
-        let line = line.strip_suffix(b"\n").unwrap_or(line);
-        let line = line.strip_suffix(b"\r").unwrap_or(line);
-        let words = line.split(|&byte| byte == b' ' || byte == b'\t').filter(|word| !word.is_empty());
-        Words { words: Box::new(words) }
+    fn sent(number: u32, port: u32, value: u32, name: &[u8], codes: &[u8]) -> Sent {
+        Sent { number, port, value, name: name.into(), codes: codes.into() }
     }
 
-    fn next(&mut self) -> Option<&'a [u8]> {
-        self.words.next()
-    }
-
-    fn argument(&mut self, what: &str, usage: &str) -> Result<&'a [u8], String> {
-        self.next().ok_or_else(|| format!("the {what} is missing: expected {usage}"))
-    }
-
-    fn end(&mut self, first: &[u8]) -> Result<(), String> {
-        match self.next() {
-            None => Ok(()),
-            Some(word) => Err(format!("'{}' is one word too many for {}", shown(word), shown(first))),
+    fn named(line: &str) -> Sent {
+        match read(line.as_bytes()) {
+            Ok(Command::Named(sent)) => sent,
+            other => panic!("{line}: {other:?}"),
         }
     }
-}
 
-fn unknown(word: &[u8]) -> String {
-    let known = ["setup", "in", "dump", "state"].into_iter().chain(ROWS.iter().map(|row| row.name));
-    let near = known.into_iter().find(|known| known.as_bytes().eq_ignore_ascii_case(word));
-    let expected = match near {
-        Some(near) => format!("it is written {near}"),
-        None => "expected setup, in, dump, state or an input's name such as Bind".into(),
-    };
-    format!("unknown word '{}': {expected}", shown(word))
-}
-
-/// A word as it can be shown in a message.
-fn shown(word: &[u8]) -> impl std::fmt::Display + '_ {
-    word.escape_ascii()
-}
-
-fn wrong(what: &str, word: &[u8], expected: &str) -> String {
-    format!("{what}: '{}' is not {expected}", shown(word))
-}
-
-/// Decimal digits alone: no sign, no spaces, nothing that is cut.
-fn number(what: &str, word: &[u8]) -> Result<u32, String> {
-    let digits = word.iter().all(u8::is_ascii_digit).then_some(word);
-    let text = digits.and_then(|digits| std::str::from_utf8(digits).ok());
-    text.and_then(|text| text.parse().ok()).ok_or_else(|| wrong(what, word, NUMBER))
-}
-
-fn hex(what: &str, word: &[u8]) -> Result<Vec<u8>, String> {
-    hex_bytes(word).ok_or_else(|| wrong(what, word, HEX))
-}
-
-fn hex_bytes(word: &[u8]) -> Option<Vec<u8>> {
-    match word {
-        b"-" => Some(Vec::new()),
-        _ if word.len() % 2 != 0 => None,
-        _ => word.chunks(2).map(|pair| Some(hex_digit(pair[0])? << 4 | hex_digit(pair[1])?)).collect(),
+    fn error(line: &str) -> String {
+        read(line.as_bytes()).unwrap_err()
     }
-}
 
-fn hex_digit(digit: u8) -> Option<u8> {
-    char::from(digit).to_digit(16).map(|value| value as u8)
-}
-
-/// A name as text: any bytes, `-` for none.
-fn text(word: &[u8]) -> Vec<u8> {
-    match word {
-        b"-" => Vec::new(),
-        _ => word.to_vec(),
+    #[test]
+    fn blank_lines_and_comments_ask_for_nothing() {
+        for line in ["", "\n", "\r\n", "  \t \n", "# Bind 1", "#", "#Bind 1 AB\n", "  # indented\n"] {
+            assert_eq!(read(line.as_bytes()), Ok(Command::Nothing), "{line:?}");
+        }
     }
-}
 
-/// 25 is odd, so that single digits are never taken for pairs of hex digits.
-fn codes(word: &[u8]) -> Result<Vec<u8>, String> {
-    let single = word.len() == hawsermole::SLOTS && word.iter().all(u8::is_ascii_digit);
-    match single {
-        true => Ok(word.iter().map(|digit| digit - b'0').collect()),
-        false => hex_bytes(word).ok_or_else(|| wrong("codes", word, CODES)),
+    #[test]
+    fn commands() {
+        assert_eq!(read(b"setup 2 16\n"), Ok(Command::Setup { ports: 2, places: 16 }));
+        assert_eq!(read(b"setup 0 4294967295"), Ok(Command::Setup { ports: 0, places: u32::MAX }));
+        assert_eq!(read(b"dump\r\n"), Ok(Command::Dump));
+        assert_eq!(read(b"\tstate "), Ok(Command::State));
+        assert_eq!(read(b"in 20 1 2 4142 0305"), Ok(Command::In(sent(20, 1, 2, b"AB", &[3, 5]))));
+        assert_eq!(read(b"in 4294967295 0 0 - -"), Ok(Command::In(sent(u32::MAX, 0, 0, b"", b""))));
+    }
+
+    /// Each named input with its arguments in document 01's order.
+    #[test]
+    #[rustfmt::skip]
+    fn every_named_input() {
+        assert_eq!(named("Bind 1 AB"), sent(1, 1, 0, b"AB", b""));
+        assert_eq!(named("CancelBind 0 AB"), sent(2, 0, 0, b"AB", b""));
+        assert_eq!(named("CancelBind 1 -"), sent(2, 1, 0, b"", b""));
+        assert_eq!(named("CarrierNotification AB"), sent(3, 0, 0, b"AB", b""));
+        assert_eq!(named("CancelCarrierNotification AB"), sent(4, 0, 0, b"AB", b""));
+        assert_eq!(named("ProceedWithCarrier AB 1"), sent(5, 1, 0, b"AB", b""));
+        assert_eq!(named("CancelCarrier AB 1"), sent(6, 1, 0, b"AB", b""));
+        assert_eq!(named("CarrierOut AB 1"), sent(7, 1, 0, b"AB", b""));
+        assert_eq!(named("CarrierIn AB"), sent(8, 0, 0, b"AB", b""));
+        assert_eq!(named("ChangeAccess 1 2"), sent(9, 1, 2, b"", b""));
+        assert_eq!(named("ChangeServiceStatus 1 2"), sent(10, 1, 2, b"", b""));
+        assert_eq!(named("ReserveAtPort 1"), sent(11, 1, 0, b"", b""));
+        assert_eq!(named("CancelReservationAtPort 1"), sent(12, 1, 0, b"", b""));
+        assert_eq!(named("LoadStart 1"), sent(13, 1, 0, b"", b""));
+        assert_eq!(named("LoadDone 1"), sent(14, 1, 0, b"", b""));
+        assert_eq!(named("LoadFail 1"), sent(15, 1, 0, b"", b""));
+        assert_eq!(named("IdRead 1 AB"), sent(16, 1, 0, b"AB", b""));
+        assert_eq!(named("IdReadFailed 1"), sent(17, 1, 0, b"", b""));
+        assert_eq!(named("MoveIn 1 2"), sent(18, 1, 2, b"", b""));
+        assert_eq!(named("Open AB"), sent(19, 0, 0, b"AB", b""));
+        assert_eq!(named("SlotMap AB 3333333333333333333333333"), sent(20, 0, 0, b"AB", &[3; 25]));
+        assert_eq!(named("AccessStart AB"), sent(21, 0, 0, b"AB", b""));
+        assert_eq!(named("AccessEnd AB 1"), sent(22, 0, 1, b"AB", b""));
+        assert_eq!(named("Close AB"), sent(23, 0, 0, b"AB", b""));
+        assert_eq!(named("UnloadStart 1"), sent(24, 1, 0, b"", b""));
+        assert_eq!(named("UnloadDone 1"), sent(25, 1, 0, b"", b""));
+        assert_eq!(named("UnloadFail 1"), sent(26, 1, 0, b"", b""));
+    }
+
+    #[test]
+    fn a_name_that_looks_like_something_else_is_a_name() {
+        assert_eq!(named("Open #1").name, b"#1");
+        assert_eq!(named("Open setup").name, b"setup");
+        assert_eq!(named("Open 4142").name, b"4142");
+    }
+
+    #[test]
+    fn unknown_words() {
+        let expected = "expected setup, in, dump, state or an input's name such as Bind";
+        assert_eq!(error("Frobnicate 1"), format!("unknown word 'Frobnicate': {expected}"));
+        assert_eq!(read(b"\xfe\xff").unwrap_err(), format!("unknown word '\\xfe\\xff': {expected}"));
+        assert_eq!(error("bind 1 AB"), "unknown word 'bind': it is written Bind");
+        assert_eq!(error("SETUP 1 0"), "unknown word 'SETUP': it is written setup");
+    }
+
+    #[test]
+    fn missing_words() {
+        assert_eq!(error("Bind 1"), "name missing: expected Bind PORT NAME");
+        assert_eq!(error("Bind"), "port missing: expected Bind PORT NAME");
+        assert_eq!(error("setup 1"), "number of buffer places missing: expected setup P B");
+        assert_eq!(error("in 1 1 0 4142"), "codes missing: expected in NUMBER PORT VALUE NAME CODES");
+    }
+
+    #[test]
+    fn words_too_many() {
+        assert_eq!(error("Open AB # now"), "'#' is one word too many: expected Open NAME");
+        assert_eq!(error("dump 1"), "'1' is one word too many: expected dump");
+        assert_eq!(error("setup 1 0 0"), "'0' is one word too many: expected setup P B");
+        assert_eq!(
+            error("in 1 1 0 - - -"),
+            "'-' is one word too many: expected in NUMBER PORT VALUE NAME CODES"
+        );
+    }
+
+    #[test]
+    fn wrong_values_are_named() {
+        assert_eq!(error("Bind AB 1"), "port: 'AB' is not a number from 0 to 4294967295");
+        assert_eq!(error("setup two 0"), "ports: 'two' is not a number from 0 to 4294967295");
+        assert_eq!(error("ChangeAccess 1 AUTO"), "access: 'AUTO' is not a number from 0 to 4294967295");
+        assert_eq!(error("in 1 1 0 AB1 -"), "name: 'AB1' is not pairs of hex digits, or - for none");
+        assert!(error("SlotMap AB 333").starts_with("codes: '333' is not 25 digits, one for each slot, or"));
     }
 }

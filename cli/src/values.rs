@@ -1,0 +1,160 @@
+//! Words of a line and what they stand for: numbers, names, codes. Nothing is cut and nothing is guessed.
+
+const NUMBER: &str = "a number from 0 to 4294967295";
+const HEX: &str = "pairs of hex digits, or - for none";
+/// What the codes of a slot map may be written as.
+pub const CODES: &str = "25 digits, one for each slot, or pairs of hex digits, or - for none";
+
+/// The words of a line, apart by spaces or tabs.
+pub struct Words<'a> {
+    rest: &'a [u8],
+}
+
+impl<'a> Words<'a> {
+    /// The words of a line with or without its end.
+    pub fn of(line: &'a [u8]) -> Words<'a> {
+        let line = line.strip_suffix(b"\n").unwrap_or(line);
+        Words { rest: line.strip_suffix(b"\r").unwrap_or(line) }
+    }
+
+    /// The next word, which must be there: `what` and `usage` are for the message.
+    pub fn argument(&mut self, what: &str, usage: &str) -> Result<&'a [u8], String> {
+        self.next().ok_or_else(|| format!("{what} missing: expected {usage}"))
+    }
+
+    /// Nothing is left.
+    pub fn end(&mut self, usage: &str) -> Result<(), String> {
+        match self.next() {
+            None => Ok(()),
+            Some(word) => Err(format!("'{}' is one word too many: expected {usage}", shown(word))),
+        }
+    }
+}
+
+impl<'a> Iterator for Words<'a> {
+    type Item = &'a [u8];
+
+    fn next(&mut self) -> Option<&'a [u8]> {
+        let gap = |byte: &u8| matches!(byte, b' ' | b'\t');
+        let start = self.rest.iter().position(|byte| !gap(byte))?;
+        let from = &self.rest[start..];
+        let (word, rest) = from.split_at(from.iter().position(gap).unwrap_or(from.len()));
+        self.rest = rest;
+        Some(word)
+    }
+}
+
+/// A word as it can be shown in a message.
+pub fn shown(word: &[u8]) -> impl std::fmt::Display + '_ {
+    word.escape_ascii()
+}
+
+fn wrong(what: &str, word: &[u8], expected: &str) -> String {
+    format!("{what}: '{}' is not {expected}", shown(word))
+}
+
+/// Decimal digits alone: no sign, no other base.
+pub fn number(what: &str, word: &[u8]) -> Result<u32, String> {
+    let digits = word.iter().all(u8::is_ascii_digit).then_some(word);
+    let text = digits.and_then(|digits| std::str::from_utf8(digits).ok());
+    text.and_then(|text| text.parse().ok()).ok_or_else(|| wrong(what, word, NUMBER))
+}
+
+/// Bytes in hex, `-` for none.
+pub fn hex(what: &str, word: &[u8]) -> Result<Vec<u8>, String> {
+    hex_bytes(word).ok_or_else(|| wrong(what, word, HEX))
+}
+
+fn hex_bytes(word: &[u8]) -> Option<Vec<u8>> {
+    match word {
+        b"-" => Some(Vec::new()),
+        _ if word.len() % 2 != 0 => None,
+        _ => word.chunks(2).map(|pair| Some(hex_digit(pair[0])? << 4 | hex_digit(pair[1])?)).collect(),
+    }
+}
+
+fn hex_digit(digit: u8) -> Option<u8> {
+    char::from(digit).to_digit(16).map(|value| value as u8)
+}
+
+/// A name as text: any bytes, `-` for none.
+pub fn text(word: &[u8]) -> Vec<u8> {
+    match word {
+        b"-" => Vec::new(),
+        _ => word.to_vec(),
+    }
+}
+
+/// The codes of a slot map. 25 is odd, so that single digits are never taken for pairs of hex digits.
+pub fn codes(what: &str, word: &[u8]) -> Result<Vec<u8>, String> {
+    let single = word.len() == hawsermole::SLOTS && word.iter().all(u8::is_ascii_digit);
+    match single {
+        true => Ok(word.iter().map(|digit| digit - b'0').collect()),
+        false => hex_bytes(word).ok_or_else(|| wrong(what, word, CODES)),
+    }
+}
+
+#[cfg(test)]
+mod tests {
+    use super::*;
+
+    fn words(line: &[u8]) -> Vec<&[u8]> {
+        Words::of(line).collect()
+    }
+
+    #[test]
+    fn words_are_apart_by_spaces_or_tabs() {
+        assert_eq!(words(b"Bind 1 AB\n"), [&b"Bind"[..], b"1", b"AB"]);
+        assert_eq!(words(b" \t Bind\t\t1  AB \t\r\n"), [&b"Bind"[..], b"1", b"AB"]);
+        assert!(words(b"").is_empty() && words(b" \t\r\n").is_empty());
+    }
+
+    /// One carriage return at the end of the line is part of its end; any other belongs to a word.
+    #[test]
+    fn carriage_returns() {
+        assert_eq!(words(b"A\r"), [b"A"]);
+        assert_eq!(words(b"A\r\r\n"), [b"A\r"]);
+        assert_eq!(words(b"A\rB\n"), [b"A\rB"]);
+    }
+
+    #[test]
+    fn numbers_are_decimal_and_not_cut() {
+        assert_eq!(number("n", b"0"), Ok(0));
+        assert_eq!(number("n", b"007"), Ok(7));
+        assert_eq!(number("n", b"4294967295"), Ok(u32::MAX));
+        for odd in ["4294967296", "99999999999999999999", "-1", "+1", "0x1", "1.0", "1_0", "", "a", "-"] {
+            let message = format!("n: '{odd}' is not a number from 0 to 4294967295");
+            assert_eq!(number("n", odd.as_bytes()), Err(message));
+        }
+        assert_eq!(number("n", b"\xff"), Err("n: '\\xff' is not a number from 0 to 4294967295".into()));
+    }
+
+    #[test]
+    fn hex_is_pairs_of_either_case() {
+        assert_eq!(hex("name", b"4142aBFf00"), Ok(vec![0x41, 0x42, 0xab, 0xff, 0]));
+        assert_eq!(hex("name", b"-"), Ok(vec![]));
+        for odd in ["4", "414", "4g", "--", "0x41", "+1", "é"] {
+            assert!(hex("name", odd.as_bytes()).unwrap_err().starts_with("name: '"), "{odd}");
+        }
+    }
+
+    #[test]
+    fn names_are_any_bytes() {
+        assert_eq!(text(b"-"), b"");
+        assert_eq!(text(b"--"), b"--");
+        assert_eq!(text(b"\xff\x01"), b"\xff\x01");
+        assert_eq!(text(&[b'A'; 300]), [b'A'; 300]);
+    }
+
+    #[test]
+    fn codes_are_25_digits_or_hex() {
+        assert_eq!(codes("codes", b"0123450123450123450123459").unwrap()[..7], [0, 1, 2, 3, 4, 5, 0]);
+        assert_eq!(codes("codes", &[b'9'; 25]), Ok(vec![9; 25]));
+        assert_eq!(codes("codes", &[b'3'; 24]), Ok(vec![0x33; 12]));
+        assert_eq!(codes("codes", b"0305"), Ok(vec![3, 5]));
+        assert_eq!(codes("codes", b"-"), Ok(vec![]));
+        for odd in [&[b'3'; 23][..], &[b'a'; 25], b"3,3,3"] {
+            assert!(codes("codes", odd).is_err());
+        }
+    }
+}
