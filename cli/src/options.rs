@@ -1,6 +1,6 @@
 //! What the command line asks for.
 use crate::{script, values};
-use hawsermole::ROWS;
+use hawsermole::{Refusal, ROWS};
 use std::ffi::{OsStr, OsString};
 use std::path::PathBuf;
 
@@ -56,7 +56,11 @@ pub fn help() -> String {
     ] {
         text += &format!("\n  {word:<10}{meaning}");
     }
-    text + HELP_END
+    text += HELP_END;
+    for refusal in Refusal::ALL {
+        text += &format!("  {}  {refusal}\n", refusal.number());
+    }
+    text
 }
 
 const HELP: &str = "\
@@ -93,8 +97,11 @@ dump prints    port I TRANSFER ACCESS RESERVED TIE MOVEMENT POD TAG
                rec NAME PLACE SPOT PORT OPEN CANCELLED CAMEOUT MAP ID SLOT ACCESSING
                end
 
-ANSWER is 0, accepted, or why it was refused, 1 to 8. Without a tool every input is answered 1.
-A line that can't be read ends the run with status 2.
+Before a set-up, and after one that was refused, there is no tool: every input is answered 1. A line
+that can't be read is named on standard error and ends the run with status 2.
+
+ANSWER is 0, accepted, or why it was refused (the lowest number that applies):
+
 ";
 
 #[cfg(test)]
@@ -135,8 +142,9 @@ mod tests {
     }
 
     #[test]
-    fn help_names_every_input() {
+    fn help_names_every_input_and_refusal() {
         let help = help();
         assert!(ROWS.iter().all(|row| help.contains(&format!("  {} ", row.name))));
+        assert!(help.ends_with("\n  8  the buffer place is taken, or the opener is in use\n"));
     }
 }

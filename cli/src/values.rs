@@ -68,7 +68,7 @@ pub fn hex(what: &str, word: &[u8]) -> Result<Vec<u8>, String> {
 fn hex_bytes(word: &[u8]) -> Option<Vec<u8>> {
     match word {
         b"-" => Some(Vec::new()),
-        _ if word.len() % 2 != 0 => None,
+        _ if !word.len().is_multiple_of(2) => None,
         _ => word.chunks(2).map(|pair| Some(hex_digit(pair[0])? << 4 | hex_digit(pair[1])?)).collect(),
     }
 }

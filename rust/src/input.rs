@@ -242,9 +242,11 @@ mod tests {
 
     const NAME: &[u8] = b"AB";
 
-    /// Each input, document 01's number, and its port, value, name and codes.
+    /// An input, document 01's number, and its port, value, name and codes.
+    type Case = (Input<'static>, u32, u32, u32, &'static [u8], &'static [u8]);
+
     #[rustfmt::skip]
-    fn every_input() -> [(Input<'static>, u32, u32, u32, &'static [u8], &'static [u8]); 26] {
+    fn every_input() -> [Case; 26] {
         let (name, codes): (_, &[u8]) = (NAME, &[3; 25]);
         [
             (Input::Bind { port: 1, name }, 1, 1, 0, NAME, &[]),

@@ -101,10 +101,12 @@ pub fn slot_code(number: u8) -> &'static str {
 mod tests {
     use super::*;
 
-    /// The last number that has a word, for each table.
+    type Table = fn(u8) -> &'static str;
+
+    /// Each table with the last number that has a word.
     #[test]
     fn every_number_of_document_01_has_a_word() {
-        let tables: [(fn(u8) -> &'static str, u8); 11] = [
+        let tables: [(Table, u8); 11] = [
             (transfer, 3),
             (access, 1),
             (reservation, 1),
