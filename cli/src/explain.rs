@@ -26,13 +26,16 @@ fn counted(count: usize, what: &str) -> String {
     format!("{count} {what}{}", if count == 1 { "" } else { "s" })
 }
 
-/// A line for the input, one for its answer, one for each report.
-pub fn answer(parts: &Parts, given: &Answer) -> String {
+/// A line for the input, one for its answer, one for what a refusal would have needed, one for each report.
+pub fn answer(tool: &Tool, parts: &Parts, given: &Answer) -> String {
     let input = Input::from_parts(parts);
     let mut lines = vec![of_input(parts.number, input)];
     match given {
         Ok(_) => lines.push("accepted".into()),
-        Err(refusal) => lines.extend(of_refusal(*refusal, input)),
+        Err(refusal) => {
+            lines.push(format!("refused, {}: {refusal}", refusal.number()));
+            lines.extend(needed(tool, *refusal, input).map(|needed| format!("needed: {needed}")));
+        }
     }
     lines.extend(print::reports(given).map(of_report));
     lines.into_iter().map(|line| format!("  {line}\n")).collect()
@@ -46,12 +49,13 @@ fn of_input(number: u32, input: Option<Input>) -> String {
     }
 }
 
-/// `refused, 7: not verified`; for the row's own conditions, what they are.
-fn of_refusal(refusal: Refusal, input: Option<Input>) -> impl Iterator<Item = String> {
-    let conditions = input.and_then(|input| input.row().conditions);
-    let needed = conditions.filter(|_| refusal == Refusal::Conditions);
-    let reason = format!("refused, {}: {refusal}", refusal.number());
-    [Some(reason), needed.map(|conditions| format!("needed: {conditions}"))].into_iter().flatten()
+/// What was needed, where the refusal itself doesn't say it.
+fn needed(tool: &Tool, refusal: Refusal, input: Option<Input>) -> Option<&'static str> {
+    match refusal {
+        Refusal::OutOfRange if *tool == Tool::none() => Some("a set-up, since there is no tool"),
+        Refusal::Conditions => input.and_then(|input| input.row().conditions),
+        _ => None,
+    }
 }
 
 /// `port 1: READY TO LOAD to TRANSFER BLOCKED`, `carrier AB: record made, ID NOT READ`.
@@ -73,7 +77,8 @@ mod tests {
     use super::*;
 
     fn explained(tool: &mut Tool, input: Input) -> String {
-        answer(&input.parts(), &tool.step(&input))
+        let given = tool.step(&input);
+        answer(tool, &input.parts(), &given)
     }
 
     #[test]

@@ -51,7 +51,7 @@ impl Player {
         let answer = self.tool.step_raw(parts.number, parts.port, parts.value, parts.name, parts.codes);
         let printed = print(&answer);
         match self.explain {
-            true => printed + &explain::answer(&parts, &answer),
+            true => printed + &explain::answer(&self.tool, &parts, &answer),
             false => printed,
         }
     }
