@@ -287,11 +287,14 @@ mod tests {
         }
     }
 
-    /// The derived text begins with the case's own name.
+    /// The derived text gives the case's own name, and its fields in their order.
     #[test]
-    fn every_input_has_its_rows_name() {
+    fn every_input_has_its_rows_name_and_order() {
         for (input, ..) in every_input() {
-            assert!(format!("{input:?}").starts_with(&format!("{} {{", input.row().name)));
+            let (text, row) = (format!("{input:?}"), input.row());
+            assert!(text.starts_with(&format!("{} {{", row.name)), "{text}");
+            let place = |argument: &Argument| text.find(&format!(" {}: ", argument.name())).expect(row.name);
+            assert!(row.arguments.iter().map(place).is_sorted(), "{text}");
         }
     }
 

@@ -145,12 +145,18 @@ prints() {
     outcome "--version"
 }
 
-# Nobody reads after the first line: the run ends quietly, long before the end of its script.
-closed_output() {
+# Nobody reads after the first line: the run ends quietly, long before the end of its script. A full disk is told.
+lost_output() {
     awk 'BEGIN { for (i = 0; i < 100000; i++) print "dump" }' >"$work/long"
     echo end | want 0
     { hawsermole "$work/long" 2>"$work/err"; echo $? >"$work/status"; } | head -n 1 >"$work/out"
     outcome "a closed standard output"
+    want 2 "hawsermole: standard output: REASON" </dev/null
+    hawsermole "$work/long" >/dev/full 2>"$work/err"
+    echo $? >"$work/status"
+    : >"$work/out"
+    sed 's/^\(hawsermole: standard output: \)..*/\1REASON/' "$work/err" >"$work/kept" && mv "$work/kept" "$work/err"
+    outcome "a full standard output"
 }
 
 # The script stays open: each answer must come before the next line is sent. A program that waits is ended after 20 seconds.
@@ -161,6 +167,7 @@ held_open() {
     sh "$work/hawsermole" <"$work/to" >"$work/from" 2>"$work/err" &
     player=$!
     exec 3>"$work/to" 4<"$work/from"
+    trap '' PIPE
     (sleep 20; kill "$player") >/dev/null 2>&1 3>&- 4<&- &
     guard=$!
     while IFS= read -r line; do
@@ -174,6 +181,7 @@ held_open() {
     echo $? >"$work/status"
     exec 4<&-
     kill "$guard" 2>/dev/null
+    trap - PIPE
     outcome "a script that is held open"
 }
 
@@ -183,7 +191,7 @@ odd_bytes
 unreadable
 wrong_calls
 prints
-closed_output
+lost_output
 held_open
 if [ "$wrong" -ne 0 ]; then
     echo "cli: $cases cases, $wrong not as expected"
