@@ -1,0 +1,134 @@
+/* A firmware loop on Hawsermole: two load ports, no buffer, inputs from a queue, reports to the host. No heap. */
+#include <stdio.h>
+#include <string.h>
+
+#include "hawsermole.h"
+
+struct input {
+    const char *text;
+    uint32_t number, port, value;
+    const char *name;
+    const uint8_t *codes;
+    uint64_t codes_length;
+};
+
+static const uint8_t wafers[HM_SLOTS] = {3, 3, 3, 3, 3, 3, 3, 3, 3, 3, 3, 3, 3, 3, 3, 3, 3, 3, 3, 3, 3, 3, 3, 3, 3};
+
+#define PLAIN HM_NOTHING, 0
+
+/* What host, sensors and tag reader would put in: document 01's run to check by hand. */
+static const struct input queue[] = {
+    {"Bind(1, AB)", HM_INPUT_BIND, 1, 0, "AB", PLAIN},
+    {"LoadStart(1)", HM_INPUT_LOAD_START, 1, 0, "", PLAIN},
+    {"LoadDone(1)", HM_INPUT_LOAD_DONE, 1, 0, "", PLAIN},
+    {"IdRead(1, AC)", HM_INPUT_ID_READ, 1, 0, "AC", PLAIN},
+    {"Open(AC)", HM_INPUT_OPEN, 0, 0, "AC", PLAIN},
+    {"ProceedWithCarrier(AC, 0)", HM_INPUT_PROCEED_WITH_CARRIER, 0, 0, "AC", PLAIN},
+    {"Open(AC)", HM_INPUT_OPEN, 0, 0, "AC", PLAIN},
+    {"SlotMap(AC, 25 threes)", HM_INPUT_SLOT_MAP, 0, 0, "AC", wafers, sizeof wafers},
+    {"AccessStart(AC)", HM_INPUT_ACCESS_START, 0, 0, "AC", PLAIN},
+    {"ProceedWithCarrier(AC, 0)", HM_INPUT_PROCEED_WITH_CARRIER, 0, 0, "AC", PLAIN},
+    {"AccessStart(AC)", HM_INPUT_ACCESS_START, 0, 0, "AC", PLAIN},
+    {"CancelCarrier(AC, 0)", HM_INPUT_CANCEL_CARRIER, 0, 0, "AC", PLAIN},
+};
+
+static const char *const refusals[] = {
+    "accepted",
+    "a port, place, value or name is out of range, or the input is unknown",
+    "the name has no record",
+    "the name is taken",
+    "the port is reserved or tied",
+    "the conditions on state don't hold",
+    "16 carriers are expected already",
+    "not verified",
+    "the buffer place is taken, or the opener is in use",
+};
+
+static const char *const models[] = {"", "transfer", "access", "reservation", "tie", "ID", "slot status", "accessing"};
+
+static const char *const states[][5] = {
+    {"", "", "", "", ""},
+    {"OUT OF SERVICE", "READY TO LOAD", "READY TO UNLOAD", "TRANSFER BLOCKED", ""},
+    {"MANUAL", "AUTO", "", "", ""},
+    {"not reserved", "reserved", "", "", ""},
+    {"not tied", "tied", "", "", ""},
+    {"no state", "NOT READ", "WAITING FOR HOST", "OK", "FAILED"},
+    {"no state", "NOT READ", "WAITING FOR HOST", "OK", "FAILED"},
+    {"no state", "NOT ACCESSED", "IN ACCESS", "COMPLETE", "STOPPED"},
+};
+
+static hm_tool tool;       /* the tool that the firmware runs */
+static hm_tool kept;       /* its last good copy: battery-backed memory with a checksum in a real controller */
+static hm_reports reports;
+
+/* A real controller sends an event to the host here. */
+static void tell(const hm_report *r)
+{
+    if (r->model <= HM_MODEL_TIE) {
+        printf("    port %u", r->port);
+    } else {
+        printf("    carrier %.*s", HM_NAME_BYTES, (const char *)r->name); /* not ended by a zero at 16 bytes */
+    }
+    printf(", %s: %s to %s\n", models[r->model], states[r->model][r->old_state], states[r->model][r->new_state]);
+}
+
+/* The tool isn't sound: take the kept copy, or, where that isn't sound either, start with nothing known. */
+static void recover(void)
+{
+    if (hm_sound(&kept)) {
+        tool = kept;
+        printf("    the tool is taken back from its kept copy\n");
+    } else if (hm_setup(&tool, 2, 0) == HM_ACCEPTED) {
+        kept = tool;
+        printf("    no sound tool is kept: set up anew, the host has to announce its carriers again\n");
+    }
+}
+
+/* Gives one input; 1 when it was accepted. */
+static int feed(const struct input *in)
+{
+    uint32_t answer = hm_step(&tool, &reports, in->number, in->port, in->value, (const uint8_t *)in->name,
+                              strlen(in->name), in->codes, in->codes_length);
+    unsigned i;
+
+    if (answer == HM_REFUSED_OUT_OF_RANGE && !hm_sound(&tool)) {
+        printf("%s: refused, the tool isn't sound\n", in->text);
+        recover();
+        return 0;
+    }
+    if (answer != HM_ACCEPTED) {
+        /* Nothing has changed and there is nothing to undo: move nothing, and give the number to the host. */
+        printf("%s: refused, %u: %s\n", in->text, (unsigned)answer, refusals[answer]);
+        return 0;
+    }
+    printf("%s: accepted\n", in->text);
+    for (i = 0; i < reports.count; i++) {
+        tell(&reports.items[i]);
+    }
+    kept = tool;
+    return 1;
+}
+
+int main(void)
+{
+    unsigned accepted = 0;
+    size_t i;
+
+    if (hm_tool_size() != sizeof tool || hm_reports_size() != sizeof reports) {
+        fprintf(stderr, "the archive and hawsermole.h are not of the same version\n");
+        return 1;
+    }
+    recover(); /* at start the battery-backed copy decides; here it is empty */
+
+    for (i = 0; i < sizeof queue / sizeof queue[0]; i++) {
+        accepted += (unsigned)feed(&queue[i]);
+    }
+
+    printf("one byte of the tool is damaged\n");
+    tool.ports[0].transfer ^= 0x40;
+    if (!feed(&queue[11])) {
+        feed(&queue[11]); /* again, now to the tool that was taken back */
+    }
+    printf("%u of %u inputs accepted, carriers known: %u\n", accepted, (unsigned)i, tool.count);
+    return 0;
+}

@@ -1,0 +1,296 @@
+/*
+ * Hawsermole: SEMI E87 carrier management for load ports, pods and the buffer of one wafer tool.
+ * Verify the pod before you open it.
+ *
+ * Three steps: hm_setup once, hm_step for every input, and after each accepted input pass the reports on.
+ * The rules are document 01's. C99, C11 and C++17. Link with libhawsermole.a; see examples/firmware.c.
+ *
+ * WHAT THE LIBRARY ANSWERS FOR
+ * Every input is answered. The number, the port and the value may be any 32-bit number, the name and the codes
+ * any bytes of any length, and the tool may hold any bytes. A refused input changes nothing in the tool.
+ * A tool is plain bytes without pointers: it may be copied, compared with memcmp, kept in battery-backed memory
+ * and handed back after a restart. A damaged one that is no longer sound is refused, never acted on. Sound is
+ * not the same as true: damage that leaves a sound tool can't be seen, so keep a checksum beside a stored one.
+ *
+ * WHAT THE CALLER ANSWERS FOR (nothing checks these)
+ * - Every pointer is valid for the whole of what it points to, and none is NULL, also where a length is 0:
+ *   HM_NOTHING, with length 0, stands for no name or no codes.
+ * - The tool and the reports don't overlap, and neither overlaps the name or the codes. So don't pass a name
+ *   that stands in that same tool or in those reports: copy it out first.
+ * - One caller at a time for one tool, and nobody else reads or writes that tool, its reports, the name or
+ *   the codes during the call. Different tools may be used at the same time: the library keeps no state.
+ * - HM_STACK_BYTES of stack are free for each call.
+ * - The program is for the archive's target: x86-64 Linux, System V ABI. The archive is position independent,
+ *   uses no heap and no file, and needs from the C library memcpy, memset and memcmp at most.
+ */
+#ifndef HAWSERMOLE_H
+#define HAWSERMOLE_H
+
+#include <stddef.h>
+#include <stdint.h>
+
+#ifdef __cplusplus
+extern "C" {
+#endif
+
+/* Limits. */
+#define HM_PORTS 4                 /* a tool has 1 to 4 ports */
+#define HM_PLACES 16               /* and 0 to 16 buffer places; 0 means that pods open at the port */
+#define HM_EXPECTED 16             /* carriers that may be expected at once */
+#define HM_RECORDS 36              /* carrier records at once: 16 expected, 16 in the buffer, 4 at ports */
+#define HM_SLOTS 25                /* codes of a slot map */
+#define HM_CODE_GREATEST 5         /* each code is 0 to 5 */
+#define HM_REPORTS 7               /* reports of one input */
+#define HM_INPUTS 26               /* inputs are numbered 1 to 26 */
+#define HM_NAME_BYTES 16           /* a name is 1 to 16 bytes, */
+#define HM_NAME_BYTE_LEAST 0x21    /* each from 0x21 */
+#define HM_NAME_BYTE_GREATEST 0x7E /* to 0x7E */
+#define HM_TOOL_BYTES 1891
+#define HM_REPORTS_BYTES 141
+
+/* Stack that one call may need, with room to spare; tests/c/stack.c measures it. */
+#define HM_STACK_BYTES 16384
+
+/* Port 0 means "not given", in the inputs whose port may be left out (2, 5 and 6). */
+#define HM_PORT_NOT_GIVEN 0
+
+/* For a name or codes of length 0. */
+#define HM_NOTHING ((const uint8_t *)"")
+
+/* The inputs, and the parts that each one reads; other parts are ignored. */
+enum hm_input {
+    HM_INPUT_BIND = 1,                         /* port, name */
+    HM_INPUT_CANCEL_BIND = 2,                  /* port or 0, name or none; not both missing */
+    HM_INPUT_CARRIER_NOTIFICATION = 3,         /* name */
+    HM_INPUT_CANCEL_CARRIER_NOTIFICATION = 4,  /* name */
+    HM_INPUT_PROCEED_WITH_CARRIER = 5,         /* name, port or 0 */
+    HM_INPUT_CANCEL_CARRIER = 6,               /* name, port or 0 */
+    HM_INPUT_CARRIER_OUT = 7,                  /* name, port */
+    HM_INPUT_CARRIER_IN = 8,                   /* name */
+    HM_INPUT_CHANGE_ACCESS = 9,                /* port, value: HM_ACCESS_MANUAL or HM_ACCESS_AUTO */
+    HM_INPUT_CHANGE_SERVICE_STATUS = 10,       /* port, value: HM_SERVICE_OUT or HM_SERVICE_IN */
+    HM_INPUT_RESERVE_AT_PORT = 11,             /* port */
+    HM_INPUT_CANCEL_RESERVATION_AT_PORT = 12,  /* port */
+    HM_INPUT_LOAD_START = 13,                  /* port */
+    HM_INPUT_LOAD_DONE = 14,                   /* port */
+    HM_INPUT_LOAD_FAIL = 15,                   /* port */
+    HM_INPUT_ID_READ = 16,                     /* port, name */
+    HM_INPUT_ID_READ_FAILED = 17,              /* port */
+    HM_INPUT_MOVE_IN = 18,                     /* port, value: a buffer place from 1 */
+    HM_INPUT_OPEN = 19,                        /* name */
+    HM_INPUT_SLOT_MAP = 20,                    /* name, codes */
+    HM_INPUT_ACCESS_START = 21,                /* name */
+    HM_INPUT_ACCESS_END = 22,                  /* name, value: HM_ACCESS_END_COMPLETE or _STOPPED */
+    HM_INPUT_CLOSE = 23,                       /* name */
+    HM_INPUT_UNLOAD_START = 24,                /* port */
+    HM_INPUT_UNLOAD_DONE = 25,                 /* port */
+    HM_INPUT_UNLOAD_FAIL = 26                  /* port */
+};
+
+/* The answers of hm_step: accepted, or the lowest refusal that applies. hm_setup answers 0 or 1. */
+enum hm_answer {
+    HM_ACCEPTED = 0,
+    HM_REFUSED_OUT_OF_RANGE = 1,     /* a port, place, value or name is outside its range, the input number
+                                        isn't 1 to 26, or the tool isn't sound: hm_sound tells which */
+    HM_REFUSED_NO_RECORD = 2,        /* the name has no record */
+    HM_REFUSED_NAME_TAKEN = 3,       /* the name is taken */
+    HM_REFUSED_PORT_TAKEN = 4,       /* the port is reserved or tied */
+    HM_REFUSED_STATE = 5,            /* the input's conditions on state don't hold */
+    HM_REFUSED_EXPECTED_FULL = 6,    /* 16 carriers are expected already */
+    HM_REFUSED_NOT_VERIFIED = 7,     /* not verified */
+    HM_REFUSED_PLACE_OR_OPENER = 8   /* the buffer place is taken, or the opener is in use */
+};
+
+/* The models of reports. The subject is a port in 1 to 4 and a name in 5 to 7. */
+enum hm_model {
+    HM_MODEL_TRANSFER = 1,    /* states: enum hm_transfer */
+    HM_MODEL_ACCESS = 2,      /* enum hm_access */
+    HM_MODEL_RESERVATION = 3, /* enum hm_reservation */
+    HM_MODEL_TIE = 4,         /* enum hm_tie; 1 to 1: the tie passed to another carrier */
+    HM_MODEL_ID = 5,          /* enum hm_status */
+    HM_MODEL_SLOT = 6,        /* enum hm_status */
+    HM_MODEL_ACCESSING = 7    /* enum hm_accessing */
+};
+
+/* In models 5 to 7: the carrier had no record before, or has none any more. */
+#define HM_NO_STATE 0
+
+enum hm_transfer {
+    HM_TRANSFER_OUT_OF_SERVICE = 0,
+    HM_TRANSFER_READY_TO_LOAD = 1,
+    HM_TRANSFER_READY_TO_UNLOAD = 2,
+    HM_TRANSFER_BLOCKED = 3
+};
+
+enum hm_access { HM_ACCESS_MANUAL = 0, HM_ACCESS_AUTO = 1 };
+
+enum hm_reservation { HM_NOT_RESERVED = 0, HM_RESERVED = 1 };
+
+enum hm_tie { HM_NOT_TIED = 0, HM_TIED = 1 };
+
+enum hm_movement { HM_MOVEMENT_NONE = 0, HM_MOVEMENT_LOADING = 1, HM_MOVEMENT_UNLOADING = 2 };
+
+enum hm_pod { HM_NO_POD = 0, HM_POD_PRESENT = 1 };
+
+enum hm_tag { HM_TAG_UNREAD = 0, HM_TAG_READ = 1, HM_TAG_FAILED = 2 };
+
+enum hm_place { HM_PLACE_EXPECTED = 0, HM_PLACE_PORT = 1, HM_PLACE_BUFFER = 2 };
+
+/* ID status and slot status. */
+enum hm_status {
+    HM_STATUS_NOT_READ = 1,
+    HM_STATUS_WAITING_FOR_HOST = 2,
+    HM_STATUS_OK = 3,
+    HM_STATUS_FAILED = 4
+};
+
+enum hm_accessing {
+    HM_ACCESSING_NOT_ACCESSED = 1,
+    HM_ACCESSING_IN_ACCESS = 2,
+    HM_ACCESSING_COMPLETE = 3,
+    HM_ACCESSING_STOPPED = 4
+};
+
+/* Values of ChangeServiceStatus and of AccessEnd. */
+enum hm_service { HM_SERVICE_OUT = 0, HM_SERVICE_IN = 1 };
+
+enum hm_access_end { HM_ACCESS_END_COMPLETE = 0, HM_ACCESS_END_STOPPED = 1 };
+
+/* Codes of a slot map, in E87's words. The library keeps them; the host alone judges them. */
+enum hm_code {
+    HM_CODE_UNDEFINED = 0,
+    HM_CODE_EMPTY = 1,
+    HM_CODE_NOT_EMPTY = 2,
+    HM_CODE_CORRECTLY_OCCUPIED = 3,
+    HM_CODE_DOUBLE_SLOTTED = 4,
+    HM_CODE_CROSS_SLOTTED = 5
+};
+
+/*
+ * The structs are bytes alone: no padding, alignment 1. A name has zeros after its last byte and, when it fills
+ * all 16, no zero at all: it is not a C string. All zeros is no name.
+ */
+typedef struct hm_port {
+    uint8_t transfer;            /* enum hm_transfer */
+    uint8_t access;              /* enum hm_access */
+    uint8_t reserved;            /* enum hm_reservation */
+    uint8_t tie[HM_NAME_BYTES];  /* the carrier that the port is tied to, or no name */
+    uint8_t movement;            /* enum hm_movement */
+    uint8_t pod;                 /* enum hm_pod */
+    uint8_t tag;                 /* enum hm_tag: read means only that a name came off it, not that it is verified */
+} hm_port;
+
+typedef struct hm_carrier {
+    uint8_t name[HM_NAME_BYTES];
+    uint8_t place;               /* enum hm_place */
+    uint8_t spot;                /* the buffer place from 1, or 0 when not in the buffer */
+    uint8_t port;                /* the port from 1 that it is tied to, or 0 */
+    uint8_t opened;              /* 0 or 1, as the next two */
+    uint8_t cancelled;
+    uint8_t cameout;
+    uint8_t map[HM_SLOTS];       /* enum hm_code; all zero before a slot map came */
+    uint8_t id;                  /* enum hm_status */
+    uint8_t slot;                /* enum hm_status */
+    uint8_t accessing;           /* enum hm_accessing */
+} hm_carrier;
+
+/* Read it as you like; change it through hm_step alone. Port number N is ports[N - 1]. */
+typedef struct hm_tool {
+    uint8_t used;                    /* ports of this tool */
+    uint8_t places;                  /* buffer places of this tool */
+    uint8_t count;                   /* carrier records, in the order they were made */
+    hm_port ports[HM_PORTS];         /* all zero past used */
+    hm_carrier carriers[HM_RECORDS]; /* all zero past count */
+} hm_tool;
+
+typedef struct hm_report {
+    uint8_t model;               /* enum hm_model */
+    uint8_t port;                /* models 1 to 4: the port; else 0 */
+    uint8_t name[HM_NAME_BYTES]; /* models 5 to 7: the carrier; else no name */
+    uint8_t old_state;
+    uint8_t new_state;
+} hm_report;
+
+typedef struct hm_reports {
+    uint8_t count;
+    hm_report items[HM_REPORTS]; /* by model, a removed carrier before the others; all zero past count */
+} hm_reports;
+
+/*
+ * Sets up a tool of 1 to 4 ports and 0 to 16 buffer places. Whatever the tool held before is gone.
+ * 0: every port READY TO LOAD and MANUAL, no carrier. 1: out of range; the tool is all zeros, which is no tool:
+ * it isn't sound, and every input to it is answered 1 until a set-up succeeds.
+ */
+uint32_t hm_setup(hm_tool *tool, uint32_t ports, uint32_t places);
+
+/*
+ * Gives one input to the tool and answers it, by enum hm_answer. What the reports held before is gone.
+ * 0: the tool is the one that follows, and the reports are its differences from the one before.
+ * Else refused: the tool is as it was, byte for byte, and the reports are all zero.
+ * A name is given by its own bytes and its own length, without the zeros that pad it inside the structs.
+ */
+uint32_t hm_step(hm_tool *tool, hm_reports *reports, uint32_t number, uint32_t port, uint32_t value,
+                 const uint8_t *name, uint64_t name_length, const uint8_t *codes, uint64_t codes_length);
+
+/* 1 when the tool, whatever its bytes, is sound, else 0. Changes nothing. hm_step asks it for every input. */
+uint32_t hm_sound(const hm_tool *tool);
+
+/* sizeof(hm_tool) and sizeof(hm_reports) as the archive has them: compare once at start. */
+uint32_t hm_tool_size(void);
+uint32_t hm_reports_size(void);
+
+#ifdef __cplusplus
+}
+#endif
+
+/* The layout that the archive was made for. C99 has no static assertion: an array of -1 bytes stops it there. */
+#if defined(__cplusplus)
+#define HM_HOLDS(name, fact) static_assert(fact, #name)
+#elif defined(__STDC_VERSION__) && __STDC_VERSION__ >= 201112L
+#define HM_HOLDS(name, fact) _Static_assert(fact, #name)
+#else
+#define HM_HOLDS(name, fact) typedef char hm_holds_##name[(fact) ? 1 : -1]
+#endif
+#define HM_AT(type, field, offset) HM_HOLDS(type##_##field, offsetof(type, field) == (offset))
+
+HM_HOLDS(hm_port_size, sizeof(hm_port) == 22);
+HM_AT(hm_port, transfer, 0);
+HM_AT(hm_port, access, 1);
+HM_AT(hm_port, reserved, 2);
+HM_AT(hm_port, tie, 3);
+HM_AT(hm_port, movement, 19);
+HM_AT(hm_port, pod, 20);
+HM_AT(hm_port, tag, 21);
+
+HM_HOLDS(hm_carrier_size, sizeof(hm_carrier) == 50);
+HM_AT(hm_carrier, name, 0);
+HM_AT(hm_carrier, place, 16);
+HM_AT(hm_carrier, spot, 17);
+HM_AT(hm_carrier, port, 18);
+HM_AT(hm_carrier, opened, 19);
+HM_AT(hm_carrier, cancelled, 20);
+HM_AT(hm_carrier, cameout, 21);
+HM_AT(hm_carrier, map, 22);
+HM_AT(hm_carrier, id, 47);
+HM_AT(hm_carrier, slot, 48);
+HM_AT(hm_carrier, accessing, 49);
+
+HM_HOLDS(hm_tool_size, sizeof(hm_tool) == HM_TOOL_BYTES);
+HM_AT(hm_tool, used, 0);
+HM_AT(hm_tool, places, 1);
+HM_AT(hm_tool, count, 2);
+HM_AT(hm_tool, ports, 3);
+HM_AT(hm_tool, carriers, 91);
+
+HM_HOLDS(hm_report_size, sizeof(hm_report) == 20);
+HM_AT(hm_report, model, 0);
+HM_AT(hm_report, port, 1);
+HM_AT(hm_report, name, 2);
+HM_AT(hm_report, old_state, 18);
+HM_AT(hm_report, new_state, 19);
+
+HM_HOLDS(hm_reports_size, sizeof(hm_reports) == HM_REPORTS_BYTES);
+HM_AT(hm_reports, count, 0);
+HM_AT(hm_reports, items, 1);
+
+#endif

@@ -1,0 +1,171 @@
+/* The header by its names, as C99, C11 and C++17: document 01's numbers, and all 26 inputs played by name. */
+#include "check.h"
+
+/* A run can't tell these numbers from each other or doesn't reach them, so they are held against document 01 here. */
+HM_HOLDS(limits_of_a_tool, HM_PORTS == 4 && HM_PLACES == 16 && HM_EXPECTED == 16 && HM_RECORDS == 36);
+HM_HOLDS(limits_of_an_input, HM_INPUTS == 26 && HM_SLOTS == 25 && HM_REPORTS == 7 && HM_NAME_BYTES == 16);
+HM_HOLDS(records_at_once, HM_RECORDS == HM_EXPECTED + HM_PLACES + HM_PORTS);
+HM_HOLDS(bytes_of_a_name, HM_NAME_BYTE_LEAST == 0x21 && HM_NAME_BYTE_GREATEST == 0x7E);
+HM_HOLDS(models_of_ports, HM_MODEL_TRANSFER == 1 && HM_MODEL_ACCESS == 2 && HM_MODEL_RESERVATION == 3);
+HM_HOLDS(models_of_carriers, HM_MODEL_TIE == 4 && HM_MODEL_ID == 5 && HM_MODEL_SLOT == 6 && HM_MODEL_ACCESSING == 7);
+HM_HOLDS(ends, HM_INPUT_BIND == 1 && HM_INPUT_UNLOAD_FAIL == HM_INPUTS && HM_REFUSED_PLACE_OR_OPENER == 8);
+HM_HOLDS(codes, HM_CODE_UNDEFINED == 0 && HM_CODE_EMPTY == 1 && HM_CODE_NOT_EMPTY == 2);
+HM_HOLDS(more_codes, HM_CODE_CORRECTLY_OCCUPIED == 3 && HM_CODE_DOUBLE_SLOTTED == 4 && HM_CODE_CROSS_SLOTTED == 5);
+HM_HOLDS(greatest_code, HM_CODE_CROSS_SLOTTED == HM_CODE_GREATEST);
+
+static hm_tool tool;
+static hm_reports reports;
+static const hm_port *const one = &tool.ports[0];
+static const hm_carrier *const first = &tool.carriers[0];
+
+#define GIVE(number, port, value, name) give(&tool, &reports, (number), (port), (value), (name))
+#define ACCEPTED(number, port, value, name) CHECK(GIVE(number, port, value, name) == HM_ACCEPTED)
+
+static void set_up(void)
+{
+    CHECK(hm_tool_size() == sizeof tool && hm_reports_size() == sizeof reports);
+    CHECK(hm_setup(&tool, HM_PORTS + 1, 0) == HM_REFUSED_OUT_OF_RANGE && !hm_sound(&tool) && tool.used == 0);
+    CHECK(hm_setup(&tool, 1, HM_PLACES + 1) == HM_REFUSED_OUT_OF_RANGE && !hm_sound(&tool));
+    CHECK(GIVE(HM_INPUT_LOAD_START, 1, 0, "") == HM_REFUSED_OUT_OF_RANGE);
+    CHECK(hm_setup(&tool, HM_PORTS, HM_PLACES) == HM_ACCEPTED && hm_sound(&tool) == 1);
+    CHECK(tool.used == HM_PORTS && tool.places == HM_PLACES && tool.count == 0);
+    CHECK(one->transfer == HM_TRANSFER_READY_TO_LOAD && one->access == HM_ACCESS_MANUAL);
+    CHECK(one->reserved == HM_NOT_RESERVED && is_name(one->tie, "") && one->movement == HM_MOVEMENT_NONE);
+    CHECK(one->pod == HM_NO_POD && one->tag == HM_TAG_UNREAD);
+}
+
+static void bookings_and_service(void)
+{
+    ACCEPTED(HM_INPUT_BIND, 1, 0, "A");
+    CHECK(one->reserved == HM_RESERVED && is_name(one->tie, "A") && first->place == HM_PLACE_EXPECTED);
+    CHECK(reports.count == 5 && reports.items[1].model == HM_MODEL_TIE && reports.items[1].port == 1);
+    CHECK(reports.items[1].old_state == HM_NOT_TIED && reports.items[1].new_state == HM_TIED);
+    CHECK(reports.items[2].model == HM_MODEL_ID && is_name(reports.items[2].name, "A"));
+    CHECK(reports.items[2].old_state == HM_NO_STATE && reports.items[2].new_state == HM_STATUS_NOT_READ);
+    ACCEPTED(HM_INPUT_CANCEL_BIND, HM_PORT_NOT_GIVEN, 0, "A");
+    CHECK(tool.count == 0 && one->reserved == HM_NOT_RESERVED);
+    ACCEPTED(HM_INPUT_CARRIER_NOTIFICATION, 0, 0, "A");
+    CHECK(tool.count == 1 && is_name(first->name, "A") && first->port == 0);
+    ACCEPTED(HM_INPUT_CANCEL_CARRIER_NOTIFICATION, 0, 0, "A");
+    CHECK(tool.count == 0);
+    ACCEPTED(HM_INPUT_CHANGE_ACCESS, 1, HM_ACCESS_AUTO, "");
+    CHECK(one->access == HM_ACCESS_AUTO && reports.items[0].model == HM_MODEL_ACCESS);
+    ACCEPTED(HM_INPUT_CHANGE_SERVICE_STATUS, 1, HM_SERVICE_OUT, "");
+    CHECK(one->transfer == HM_TRANSFER_OUT_OF_SERVICE && reports.items[0].model == HM_MODEL_TRANSFER);
+    ACCEPTED(HM_INPUT_CHANGE_SERVICE_STATUS, 1, HM_SERVICE_IN, "");
+    CHECK(one->transfer == HM_TRANSFER_READY_TO_LOAD);
+    ACCEPTED(HM_INPUT_RESERVE_AT_PORT, 1, 0, "");
+    CHECK(one->reserved == HM_RESERVED && reports.items[0].model == HM_MODEL_RESERVATION);
+    ACCEPTED(HM_INPUT_CANCEL_RESERVATION_AT_PORT, 1, 0, "");
+    CHECK(one->reserved == HM_NOT_RESERVED);
+}
+
+static void a_pod_comes_in(void)
+{
+    ACCEPTED(HM_INPUT_LOAD_START, 1, 0, "");
+    CHECK(one->transfer == HM_TRANSFER_BLOCKED && one->movement == HM_MOVEMENT_LOADING);
+    ACCEPTED(HM_INPUT_LOAD_FAIL, 1, 0, "");
+    CHECK(one->transfer == HM_TRANSFER_READY_TO_LOAD && one->movement == HM_MOVEMENT_NONE);
+    ACCEPTED(HM_INPUT_LOAD_START, 1, 0, "");
+    ACCEPTED(HM_INPUT_LOAD_DONE, 1, 0, "");
+    CHECK(one->pod == HM_POD_PRESENT && one->tag == HM_TAG_UNREAD);
+    ACCEPTED(HM_INPUT_ID_READ, 1, 0, "A");
+    CHECK(one->tag == HM_TAG_READ && first->place == HM_PLACE_PORT && first->port == 1);
+    CHECK(first->id == HM_STATUS_WAITING_FOR_HOST && first->slot == HM_STATUS_NOT_READ);
+    ACCEPTED(HM_INPUT_PROCEED_WITH_CARRIER, HM_PORT_NOT_GIVEN, 0, "A");
+    CHECK(first->id == HM_STATUS_OK);
+    ACCEPTED(HM_INPUT_MOVE_IN, 1, HM_PLACES, "");
+    CHECK(first->place == HM_PLACE_BUFFER && first->spot == HM_PLACES && first->port == 0);
+}
+
+static void a_pod_is_worked_on(uint32_t end, uint8_t ended)
+{
+    uint8_t codes[HM_SLOTS];
+    unsigned i;
+
+    for (i = 0; i < HM_SLOTS; i++) {
+        codes[i] = (uint8_t)(i % (HM_CODE_GREATEST + 1));
+    }
+    ACCEPTED(HM_INPUT_OPEN, 0, 0, "A");
+    CHECK(first->opened == 1);
+    CHECK(hm_step(&tool, &reports, HM_INPUT_SLOT_MAP, 0, 0, (const uint8_t *)"A", 1, codes, HM_SLOTS) == HM_ACCEPTED);
+    CHECK(memcmp(first->map, codes, HM_SLOTS) == 0 && first->slot == HM_STATUS_WAITING_FOR_HOST);
+    CHECK(reports.items[0].model == HM_MODEL_SLOT);
+    ACCEPTED(HM_INPUT_PROCEED_WITH_CARRIER, HM_PORT_NOT_GIVEN, 0, "A");
+    CHECK(first->slot == HM_STATUS_OK && first->accessing == HM_ACCESSING_NOT_ACCESSED);
+    ACCEPTED(HM_INPUT_ACCESS_START, 0, 0, "A");
+    CHECK(first->accessing == HM_ACCESSING_IN_ACCESS && reports.items[0].model == HM_MODEL_ACCESSING);
+    ACCEPTED(HM_INPUT_ACCESS_END, 0, end, "A");
+    CHECK(first->accessing == ended);
+    ACCEPTED(HM_INPUT_CLOSE, 0, 0, "A");
+    CHECK(first->opened == 0);
+}
+
+static void a_pod_goes_out(void)
+{
+    ACCEPTED(HM_INPUT_CARRIER_OUT, 1, 0, "A");
+    CHECK(one->transfer == HM_TRANSFER_READY_TO_UNLOAD && first->cameout == 1);
+    ACCEPTED(HM_INPUT_CARRIER_IN, 0, 0, "A");
+    CHECK(one->transfer == HM_TRANSFER_BLOCKED && first->cameout == 0);
+    ACCEPTED(HM_INPUT_CANCEL_CARRIER, 1, 0, "A");
+    CHECK(one->transfer == HM_TRANSFER_READY_TO_UNLOAD && first->cancelled == 1);
+    ACCEPTED(HM_INPUT_UNLOAD_START, 1, 0, "");
+    CHECK(one->movement == HM_MOVEMENT_UNLOADING);
+    ACCEPTED(HM_INPUT_UNLOAD_FAIL, 1, 0, "");
+    CHECK(one->movement == HM_MOVEMENT_NONE && one->transfer == HM_TRANSFER_READY_TO_UNLOAD);
+    ACCEPTED(HM_INPUT_UNLOAD_START, 1, 0, "");
+    ACCEPTED(HM_INPUT_UNLOAD_DONE, 1, 0, "");
+    CHECK(one->pod == HM_NO_POD && tool.count == 0);
+}
+
+static void a_pod_without_a_name(void)
+{
+    ACCEPTED(HM_INPUT_LOAD_START, 1, 0, "");
+    ACCEPTED(HM_INPUT_LOAD_DONE, 1, 0, "");
+    ACCEPTED(HM_INPUT_ID_READ_FAILED, 1, 0, "");
+    CHECK(one->tag == HM_TAG_FAILED);
+    ACCEPTED(HM_INPUT_CANCEL_CARRIER, 1, 0, "Y");
+    CHECK(first->id == HM_STATUS_FAILED && is_name(one->tie, "Y"));
+}
+
+static void refusals(void)
+{
+    char name[2] = "a";
+    unsigned i;
+
+    CHECK(hm_setup(&tool, 2, 1) == HM_ACCEPTED);
+    CHECK(GIVE(HM_INPUT_LOAD_START, 3, 0, "") == HM_REFUSED_OUT_OF_RANGE);
+    CHECK(GIVE(HM_INPUT_OPEN, 0, 0, "Z") == HM_REFUSED_NO_RECORD);
+    for (i = 0; i < HM_EXPECTED; i++, name[0]++) {
+        ACCEPTED(HM_INPUT_CARRIER_NOTIFICATION, 0, 0, name);
+    }
+    CHECK(GIVE(HM_INPUT_CARRIER_NOTIFICATION, 0, 0, "a") == HM_REFUSED_NAME_TAKEN);
+    CHECK(GIVE(HM_INPUT_CARRIER_NOTIFICATION, 0, 0, name) == HM_REFUSED_EXPECTED_FULL);
+    ACCEPTED(HM_INPUT_RESERVE_AT_PORT, 1, 0, "");
+    CHECK(GIVE(HM_INPUT_RESERVE_AT_PORT, 1, 0, "") == HM_REFUSED_PORT_TAKEN);
+    CHECK(GIVE(HM_INPUT_LOAD_DONE, 1, 0, "") == HM_REFUSED_STATE);
+    ACCEPTED(HM_INPUT_LOAD_START, 1, 0, "");
+    ACCEPTED(HM_INPUT_LOAD_DONE, 1, 0, "");
+    CHECK(GIVE(HM_INPUT_MOVE_IN, 1, 1, "") == HM_REFUSED_NOT_VERIFIED);
+    ACCEPTED(HM_INPUT_ID_READ, 1, 0, "a");
+    ACCEPTED(HM_INPUT_MOVE_IN, 1, 1, "");
+    ACCEPTED(HM_INPUT_LOAD_START, 1, 0, "");
+    ACCEPTED(HM_INPUT_LOAD_DONE, 1, 0, "");
+    ACCEPTED(HM_INPUT_ID_READ, 1, 0, "b");
+    CHECK(GIVE(HM_INPUT_MOVE_IN, 1, 1, "") == HM_REFUSED_PLACE_OR_OPENER && reports.count == 0);
+}
+
+int main(void)
+{
+    set_up();
+    bookings_and_service();
+    a_pod_comes_in();
+    a_pod_is_worked_on(HM_ACCESS_END_COMPLETE, HM_ACCESSING_COMPLETE);
+    a_pod_goes_out();
+    a_pod_comes_in();
+    a_pod_is_worked_on(HM_ACCESS_END_STOPPED, HM_ACCESSING_STOPPED);
+    a_pod_goes_out();
+    a_pod_without_a_name();
+    refusals();
+    return result("header");
+}
