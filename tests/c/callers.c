@@ -1,0 +1,267 @@
+/*
+ * Callers by chance: inputs of every kind to tools of every kind, sound, damaged and made of any bytes.
+ *   callers [INPUTS [SEED]]
+ * What the library may not do is stated in `judge`; memory that it may not touch is kept from it by lend.h.
+ */
+#define _DEFAULT_SOURCE
+#include <signal.h>
+
+#include "chance.h"
+#include "lend.h"
+
+#define ENOUGH 20000 /* inputs after which every row must have been accepted and every answer met */
+
+static struct room tool_room, reports_room, name_room, codes_room;
+static unsigned long inputs, seed, at, failures, set_ups, unsound_tools, damaged_tools;
+static unsigned long answers[HM_REFUSED_PLACE_OR_OPENER + 1], accepted_rows[HM_INPUTS + 1];
+static unsigned most_records;
+
+struct outcome {
+    uint32_t sound_before, answer, sound_after;
+    hm_tool tool;
+    hm_reports reports;
+    int kept; /* guards, name and codes are as they were */
+};
+
+static void wrong(const struct input *in, const char *what)
+{
+    failures++;
+    fprintf(stderr, "input %lu of seed %lu (number %u, port %u, value %u, name of %u, codes of %u): %s\n", at, seed,
+            in->number, in->port, in->value, in->name_length, in->codes_length, what);
+    if (failures == 10) {
+        exit(1);
+    }
+}
+
+static void touched(int signal_number)
+{
+    fprintf(stderr, "input %lu of seed %lu: memory was touched that isn't the library's (signal %d)\n", at, seed,
+            signal_number);
+    _exit(1);
+}
+
+static int all_zero(const void *bytes, size_t length)
+{
+    const uint8_t *byte = (const uint8_t *)bytes;
+    uint8_t any = 0;
+    while (length-- > 0) {
+        any |= *byte++;
+    }
+    return any == 0;
+}
+
+/* Gives the input to a copy of the tool, in memory placed so. */
+static struct outcome call(const hm_tool *tool, const struct input *in, enum placing placing)
+{
+    struct outcome out;
+    struct lent t, r, n, c;
+
+    any_bytes((uint8_t *)&out.reports, sizeof out.reports); /* what stood there before must be gone */
+    t = lend(&tool_room, placing, tool, sizeof *tool);
+    r = lend(&reports_room, placing, &out.reports, sizeof out.reports);
+    n = lend(&name_room, placing, in->name, in->name_length);
+    c = lend(&codes_room, placing, in->codes, in->codes_length);
+
+    out.sound_before = hm_sound((const hm_tool *)t.readable);
+    out.answer = hm_step((hm_tool *)t.writable, (hm_reports *)r.writable, in->number, in->port, in->value, n.readable,
+                         in->name_length, c.readable, in->codes_length);
+    out.sound_after = hm_sound((const hm_tool *)t.readable);
+
+    memcpy(&out.tool, t.writable, sizeof out.tool);
+    memcpy(&out.reports, r.writable, sizeof out.reports);
+    out.kept = memcmp(n.readable, in->name, in->name_length) == 0;
+    out.kept &= memcmp(c.readable, in->codes, in->codes_length) == 0;
+    out.kept &= give_back(&t) & give_back(&r) & give_back(&n) & give_back(&c);
+    return out;
+}
+
+/* Models in order, each with its own kind of subject, a difference or a tie that passes on. */
+static int well_formed(const hm_report *r, uint8_t model_before, unsigned ports)
+{
+    int of_port = r->model <= HM_MODEL_TIE;
+    int subject = of_port ? r->port >= 1 && r->port <= ports && all_zero(r->name, sizeof r->name)
+                          : r->port == 0 && r->name[0] != 0;
+    int differs = r->old_state != r->new_state || (r->model == HM_MODEL_TIE && r->new_state == HM_TIED);
+    return r->model >= model_before && r->model <= HM_MODEL_ACCESSING && subject && differs;
+}
+
+static void judge_reports(const struct input *in, const hm_reports *reports, unsigned ports)
+{
+    uint8_t model = HM_MODEL_TRANSFER;
+    unsigned i;
+
+    if (reports->count > HM_REPORTS) {
+        wrong(in, "more than seven reports");
+        return;
+    }
+    for (i = 0; i < reports->count; i++) {
+        if (!well_formed(&reports->items[i], model, ports)) {
+            wrong(in, "a report that can't be");
+        }
+        model = reports->items[i].model;
+    }
+    if (!all_zero(&reports->items[i], (HM_REPORTS - i) * sizeof(hm_report))) {
+        wrong(in, "entries past the count aren't zero");
+    }
+}
+
+static void judge(const hm_tool *before, const struct input *in, const struct outcome *out)
+{
+    if (out->answer > HM_REFUSED_PLACE_OR_OPENER || out->sound_before > 1) {
+        wrong(in, "an answer that document 01 doesn't have");
+        return;
+    }
+    if (!out->kept) {
+        wrong(in, "name, codes or a guard byte changed");
+    }
+    if (out->answer == HM_ACCEPTED) {
+        if (out->sound_before != 1 || in->number < 1 || in->number > HM_INPUTS) {
+            wrong(in, "accepted, but not an input to a sound tool");
+        }
+        if (out->sound_after != 1) {
+            wrong(in, "accepted, and the tool isn't sound");
+        }
+        judge_reports(in, &out->reports, out->tool.used);
+        return;
+    }
+    if (out->sound_before == 0 && out->answer != HM_REFUSED_OUT_OF_RANGE) {
+        wrong(in, "a tool that isn't sound has to be answered 1");
+    }
+    if (memcmp(before, &out->tool, sizeof *before) != 0 || out->sound_after != out->sound_before) {
+        wrong(in, "refused, and the tool changed");
+    }
+    if (!all_zero(&out->reports, sizeof out->reports)) {
+        wrong(in, "refused, and the reports aren't all zero");
+    }
+}
+
+static void count(const struct input *in, const struct outcome *out)
+{
+    answers[out->answer <= HM_REFUSED_PLACE_OR_OPENER ? out->answer : 1]++;
+    unsound_tools += out->sound_before == 0;
+    if (out->answer == HM_ACCEPTED && in->number <= HM_INPUTS) {
+        accepted_rows[in->number]++;
+        most_records = out->tool.count > most_records ? out->tool.count : most_records;
+    }
+}
+
+/* One input to this tool, which becomes the one that follows; now and then given twice, which must not matter. */
+static void one_input(hm_tool *tool)
+{
+    struct input in;
+    struct outcome out, again;
+
+    next_input(&in, tool);
+    out = call(tool, &in, (enum placing)below(PLACINGS));
+    judge(tool, &in, &out);
+    count(&in, &out);
+    if (below(8) == 0) {
+        again = call(tool, &in, (enum placing)below(PLACINGS));
+        if (again.answer != out.answer || memcmp(&again.tool, &out.tool, sizeof out.tool) != 0 ||
+            memcmp(&again.reports, &out.reports, sizeof out.reports) != 0) {
+            wrong(&in, "the same input to the same tool came out differently");
+        }
+    }
+    *tool = out.tool;
+}
+
+/* A set-up of any size; out of range it must leave all zeros. */
+static void set_up(hm_tool *tool)
+{
+    static const struct input none;
+    uint32_t ports = below(16) ? 1 + below(HM_PORTS) : odd_number();
+    uint32_t places = below(16) ? below(HM_PLACES + 1) : odd_number();
+    int good = ports >= 1 && ports <= HM_PORTS && places <= HM_PLACES;
+    enum placing placing = (enum placing)below(PLACINGS);
+    struct lent t;
+    hm_tool expected;
+    unsigned i;
+
+    memset(&expected, 0, sizeof expected);
+    for (i = 0; good && i < ports; i++) {
+        expected.used = (uint8_t)ports;
+        expected.places = (uint8_t)places;
+        expected.ports[i].transfer = HM_TRANSFER_READY_TO_LOAD;
+    }
+    t = lend(&tool_room, placing, tool, sizeof *tool);
+    if (hm_setup((hm_tool *)t.writable, ports, places) != (good ? 0u : 1u) ||
+        memcmp(t.readable, &expected, sizeof expected) != 0 || hm_sound((const hm_tool *)t.readable) != (uint32_t)good) {
+        wrong(&none, "set-up");
+    }
+    *tool = expected;
+    set_ups++;
+    if (!give_back(&t)) {
+        wrong(&none, "set-up changed a guard byte");
+    }
+}
+
+/* A copy with some bytes changed, or with nothing but any bytes, gets a few inputs of its own. */
+static void damaged(const hm_tool *sound)
+{
+    hm_tool tool = *sound;
+    uint32_t changes = 1 + below(3), inputs_left = 1 + below(4);
+
+    if (below(8) == 0) {
+        any_bytes((uint8_t *)&tool, sizeof tool);
+    } else if (below(8) == 0) {
+        memset(&tool, (int)below(256), sizeof tool);
+    }
+    while (changes-- > 0) {
+        uint32_t where = below(2) ? below(sizeof tool) : below(300);
+        ((uint8_t *)&tool)[where] = (uint8_t)(below(2) ? draw() : below(6));
+    }
+    damaged_tools++;
+    while (inputs_left-- > 0 && at < inputs) {
+        at++;
+        one_input(&tool);
+    }
+}
+
+static void summary(void)
+{
+    unsigned i, rows = 0, met = 0;
+
+    printf("callers: %lu inputs of seed %lu, %lu set-ups, %lu damaged tools, %lu inputs to a tool that isn't sound\n",
+           at, seed, set_ups, damaged_tools, unsound_tools);
+    for (i = 0; i <= HM_REFUSED_PLACE_OR_OPENER; i++) {
+        printf("%s%u: %lu", i == 0 ? "answers " : ", ", i, answers[i]);
+        met += answers[i] > 0;
+    }
+    for (i = 1; i <= HM_INPUTS; i++) {
+        rows += accepted_rows[i] > 0;
+    }
+    printf("\nrows accepted %u of %u, most records %u, %lu failed\n", rows, HM_INPUTS, most_records, failures);
+    if (inputs >= ENOUGH && (rows < HM_INPUTS || met <= HM_REFUSED_PLACE_OR_OPENER || unsound_tools == 0)) {
+        fprintf(stderr, "too little was met for this to mean anything\n");
+        failures++;
+    }
+}
+
+int main(int argc, char **argv)
+{
+    hm_tool tool;
+
+    inputs = argc > 1 ? strtoul(argv[1], NULL, 10) : 100000;
+    seed = argc > 2 ? strtoul(argv[2], NULL, 10) : 1;
+    chance_state = seed;
+    make_room(&tool_room);
+    make_room(&reports_room);
+    make_room(&name_room);
+    make_room(&codes_room);
+    signal(SIGSEGV, touched);
+    signal(SIGBUS, touched);
+
+    memset(&tool, 0, sizeof tool);
+    while (at < inputs) {
+        if (set_ups == 0 || below(500) == 0) {
+            set_up(&tool);
+        } else if (below(20) == 0) {
+            damaged(&tool);
+        } else {
+            at++;
+            one_input(&tool);
+        }
+    }
+    summary();
+    return failures != 0 || at == 0;
+}

@@ -1,0 +1,200 @@
+/* Inputs by chance, the same for the same seed: most fit the tool that they are given to, some are odd. */
+#ifndef CHANCE_H
+#define CHANCE_H
+
+#include <string.h>
+
+#include "hawsermole.h"
+
+#define LONGEST 300 /* bytes of the longest name and of the longest codes */
+
+struct input {
+    uint32_t number, port, value, name_length, codes_length;
+    uint8_t name[LONGEST], codes[LONGEST];
+};
+
+static uint64_t chance_state;
+static int filling; /* for a while the host announces carriers and cancels none, so that runs come to full tools */
+
+/* splitmix64 */
+static uint64_t draw(void)
+{
+    uint64_t z = chance_state += 0x9E3779B97F4A7C15u;
+    z = (z ^ (z >> 30)) * 0xBF58476D1CE4E5B9u;
+    z = (z ^ (z >> 27)) * 0x94D049BB133111EBu;
+    return z ^ (z >> 31);
+}
+
+/* A number below n, which isn't 0. */
+static uint32_t below(uint32_t n)
+{
+    return (uint32_t)(((draw() >> 32) * n) >> 32);
+}
+
+static uint32_t odd_number(void)
+{
+    static const uint32_t odd[] = {0, 5, 17, 27, 255, 256, 257, 65537, 0x80000000u, 0x80000001u, 0xFFFFFFFFu};
+    return odd[below(sizeof odd / sizeof odd[0])];
+}
+
+static void any_bytes(uint8_t *bytes, uint32_t length)
+{
+    uint32_t i;
+    for (i = 0; i < length; i++) {
+        bytes[i] = (uint8_t)draw();
+    }
+}
+
+/* One of 44 names, of 1 to 16 bytes; many are the beginning of another. */
+static void some_name(struct input *in)
+{
+    static const char longest[] = "CARRIER-OF-LOT-7";
+    uint32_t k = below(44);
+    in->name_length = 1 + k % HM_NAME_BYTES;
+    memcpy(in->name, longest, in->name_length);
+    in->name[in->name_length - 1] = (uint8_t)(HM_NAME_BYTE_GREATEST - k / HM_NAME_BYTES);
+}
+
+static void known_name(struct input *in, const hm_carrier *carrier)
+{
+    for (in->name_length = 0; in->name_length < HM_NAME_BYTES; in->name_length++) {
+        if (carrier->name[in->name_length] == 0) {
+            return;
+        }
+        in->name[in->name_length] = carrier->name[in->name_length];
+    }
+}
+
+/* Of 0, 16, 17 or any other length up to 300, of every byte; or a good name with one bad byte. */
+static void odd_name(struct input *in)
+{
+    static const uint32_t lengths[] = {0, 1, 15, 16, 17, 255, 256, 257, 272, LONGEST};
+    if (below(3) == 0) {
+        some_name(in);
+        in->name[below(in->name_length)] = (uint8_t)(below(2) ? draw() : below(HM_NAME_BYTE_LEAST));
+        return;
+    }
+    in->name_length = below(2) ? lengths[below(sizeof lengths / sizeof lengths[0])] : below(LONGEST + 1);
+    if (below(2)) {
+        any_bytes(in->name, in->name_length);
+    } else {
+        memset(in->name, 'A', in->name_length);
+    }
+}
+
+static void good_codes(struct input *in)
+{
+    uint32_t i;
+    in->codes_length = HM_SLOTS;
+    for (i = 0; i < HM_SLOTS; i++) {
+        in->codes[i] = (uint8_t)below(HM_CODE_GREATEST + 1);
+    }
+}
+
+static void odd_codes(struct input *in)
+{
+    static const uint32_t lengths[] = {0, 1, 24, 25, 26, 255, 256, 281, LONGEST};
+    in->codes_length = below(2) ? lengths[below(sizeof lengths / sizeof lengths[0])] : below(LONGEST + 1);
+    if (below(2)) {
+        any_bytes(in->codes, in->codes_length);
+    } else {
+        memset(in->codes, HM_CODE_CORRECTLY_OCCUPIED, in->codes_length);
+    }
+}
+
+/* One part of the input becomes odd. */
+static void one_odd_part(struct input *in)
+{
+    switch (below(5)) {
+    case 0: in->number = below(2) ? odd_number() : (uint32_t)draw(); break;
+    case 1: in->port = below(2) ? odd_number() : (uint32_t)draw(); break;
+    case 2: in->value = below(2) ? odd_number() : (uint32_t)draw(); break;
+    case 3: odd_name(in); break;
+    default: odd_codes(in); break;
+    }
+}
+
+/* What a port of this state may be waiting for. */
+static uint32_t number_for_port(const hm_port *port)
+{
+    static const uint8_t ready[] = {1, 2, 7, 9, 10, 11, 12, 13, 13, 13, 13, 13};
+    static const uint8_t loading[] = {14, 14, 14, 15};
+    static const uint8_t unloading[] = {25, 25, 25, 26};
+    static const uint8_t unread[] = {2, 9, 16, 16, 16, 16, 17};
+    static const uint8_t blocked[] = {5, 6, 9, 18, 18, 18, 18};
+    static const uint8_t leaving[] = {6, 8, 9, 24, 24, 24};
+    if (port->movement == HM_MOVEMENT_LOADING) {
+        return loading[below(sizeof loading)];
+    }
+    if (port->movement == HM_MOVEMENT_UNLOADING) {
+        return unloading[below(sizeof unloading)];
+    }
+    switch (port->transfer) {
+    case HM_TRANSFER_READY_TO_LOAD: return ready[below(sizeof ready)];
+    case HM_TRANSFER_BLOCKED:
+        return port->tag == HM_TAG_UNREAD ? unread[below(sizeof unread)] : blocked[below(sizeof blocked)];
+    case HM_TRANSFER_READY_TO_UNLOAD: return leaving[below(sizeof leaving)];
+    default: return HM_INPUT_CHANGE_SERVICE_STATUS;
+    }
+}
+
+/* What a carrier of this state may be waiting for. */
+static uint32_t number_for_carrier(const hm_carrier *carrier)
+{
+    if (carrier->place == HM_PLACE_EXPECTED) {
+        return filling || below(3) ? HM_INPUT_ID_READ : HM_INPUT_CANCEL_BIND + 2 * below(2);
+    }
+    if (carrier->id == HM_STATUS_WAITING_FOR_HOST || carrier->slot == HM_STATUS_WAITING_FOR_HOST) {
+        return filling || below(6) ? HM_INPUT_PROCEED_WITH_CARRIER : HM_INPUT_CANCEL_CARRIER;
+    }
+    if (carrier->opened) {
+        return HM_INPUT_SLOT_MAP + below(4);
+    }
+    if (carrier->accessing == HM_ACCESSING_NOT_ACCESSED && !carrier->cancelled && below(4)) {
+        return HM_INPUT_OPEN;
+    }
+    return carrier->place == HM_PLACE_BUFFER ? HM_INPUT_CARRIER_OUT : HM_INPUT_CARRIER_IN;
+}
+
+/* An input that a carrier or a port of this tool may be waiting for, and some that none waits for. */
+static void fitting_number(struct input *in, const hm_tool *tool, const hm_carrier *carrier)
+{
+    uint32_t kind = below(8);
+    if (kind == 0) {
+        in->number = 1 + below(HM_INPUTS);
+    } else if (kind == 1 || (filling && kind == 2)) {
+        in->number = HM_INPUT_CARRIER_NOTIFICATION;
+    } else if (kind <= 4 && carrier != NULL) {
+        known_name(in, carrier);
+        in->number = number_for_carrier(carrier);
+        in->port = below(2) && in->number <= HM_INPUT_CANCEL_CARRIER ? carrier->port : in->port;
+    } else {
+        in->number = number_for_port(&tool->ports[in->port - 1]);
+    }
+    if (in->number == HM_INPUT_MOVE_IN) {
+        in->value = 1 + below(tool->places + 1u);
+    }
+}
+
+/* An input for this tool, whatever its bytes. */
+static void next_input(struct input *in, const hm_tool *tool)
+{
+    uint32_t ports = tool->used == 0 || tool->used > HM_PORTS ? HM_PORTS : tool->used;
+    uint32_t records = tool->count > HM_RECORDS ? HM_RECORDS : tool->count;
+    const hm_carrier *carrier = records == 0 ? NULL : &tool->carriers[below(records)];
+
+    filling = below(200) == 0 ? !filling : filling;
+    in->port = 1 + below(ports);
+    in->value = below(4) ? below(2) : below(tool->places + 2u);
+    good_codes(in);
+    some_name(in);
+    if (carrier != NULL && below(3)) {
+        known_name(in, carrier);
+    }
+    fitting_number(in, tool, carrier);
+    if (below(12) == 0) {
+        one_odd_part(in);
+    }
+}
+
+#endif
