@@ -1,0 +1,215 @@
+/*
+ * The stack that one call uses, greatest over many: each call runs on a stack of its own that was painted before, and
+ * the lowest place where the paint is gone tells. Build with -Wl,-z,now, so that no call pays for the linker's work.
+ *   stack [INPUTS]
+ * Counted from the frame of the function that calls the library, so with the arguments and the return address.
+ */
+#define _DEFAULT_SOURCE
+#include <stdio.h>
+#include <stdlib.h>
+#include <sys/mman.h>
+#include <ucontext.h>
+
+#include "chance.h"
+
+#define STACK_BYTES (256u * 1024u)
+#define WORDS (STACK_BYTES / sizeof(uint64_t))
+
+struct painted {
+    const char *function;
+    uint64_t *words;
+    const char *frame; /* of the caller of the library */
+};
+
+static struct painted for_step = {"hm_step", NULL, NULL};
+static struct painted for_setup = {"hm_setup", NULL, NULL};
+static struct painted for_sound = {"hm_sound", NULL, NULL};
+
+static ucontext_t here, there;
+static hm_tool tool;
+static hm_reports reports;
+static struct input in;
+static uint32_t answer;
+static unsigned long accepted, refused, removed, removed_from_full, most_records;
+
+static uint64_t paint(size_t i)
+{
+    return 0x9E3779B97F4A7C15u * (i + 1);
+}
+
+static void prepare(struct painted *p)
+{
+    size_t i;
+    p->words = (uint64_t *)mmap(NULL, STACK_BYTES, PROT_READ | PROT_WRITE, MAP_PRIVATE | MAP_ANONYMOUS, -1, 0);
+    if (p->words == MAP_FAILED) {
+        perror("mmap");
+        exit(2);
+    }
+    for (i = 0; i < WORDS; i++) {
+        p->words[i] = paint(i);
+    }
+}
+
+static void call_step(void)
+{
+    for_step.frame = (const char *)__builtin_frame_address(0);
+    answer = hm_step(&tool, &reports, in.number, in.port, in.value, in.name, in.name_length, in.codes, in.codes_length);
+}
+
+static void call_setup(void)
+{
+    for_setup.frame = (const char *)__builtin_frame_address(0);
+    answer = hm_setup(&tool, in.port, in.value);
+}
+
+static void call_sound(void)
+{
+    for_sound.frame = (const char *)__builtin_frame_address(0);
+    answer = hm_sound(&tool);
+}
+
+static void run_on(const struct painted *p, void (*call)(void))
+{
+    getcontext(&there);
+    there.uc_stack.ss_sp = p->words;
+    there.uc_stack.ss_size = STACK_BYTES;
+    there.uc_link = &here;
+    makecontext(&there, call, 0);
+    swapcontext(&here, &there);
+}
+
+/* Bytes from the caller's frame down to the lowest word whose paint is gone. */
+static size_t used(const struct painted *p)
+{
+    size_t i = 0;
+    while (i < WORDS && p->words[i] == paint(i)) {
+        i++;
+    }
+    return (size_t)(p->frame - (const char *)&p->words[i]);
+}
+
+static void set_up(uint32_t ports, uint32_t places)
+{
+    in.port = ports;
+    in.value = places;
+    run_on(&for_setup, call_setup);
+}
+
+/* The input that `in` holds. */
+static void step(void)
+{
+    unsigned before = tool.count;
+    run_on(&for_step, call_step);
+    accepted += answer == HM_ACCEPTED;
+    refused += answer != HM_ACCEPTED;
+    removed += tool.count < before;
+    removed_from_full += tool.count < before && before == HM_RECORDS;
+    most_records = tool.count > most_records ? tool.count : most_records;
+}
+
+static void plain_step(uint32_t number, uint32_t port, uint32_t value, uint32_t letter)
+{
+    in.number = number;
+    in.port = port;
+    in.value = value;
+    in.name_length = HM_NAME_BYTES;
+    memset(in.name, 'N', HM_NAME_BYTES);
+    in.name[HM_NAME_BYTES - 1] = (uint8_t)('0' + letter); /* differs in the last byte alone: the longest to compare */
+    step();
+}
+
+static void load(uint32_t port, uint32_t letter)
+{
+    plain_step(HM_INPUT_LOAD_START, port, 0, 0);
+    plain_step(HM_INPUT_LOAD_DONE, port, 0, 0);
+    plain_step(HM_INPUT_ID_READ, port, 0, letter);
+    plain_step(HM_INPUT_PROCEED_WITH_CARRIER, 0, 0, letter);
+}
+
+/* 16 carriers in the buffer, 4 at the ports, 16 expected. */
+static void fill(void)
+{
+    uint32_t i;
+    set_up(HM_PORTS, HM_PLACES);
+    for (i = 0; i < HM_PLACES; i++) {
+        load(1 + i % HM_PORTS, i);
+        plain_step(HM_INPUT_MOVE_IN, 1 + i % HM_PORTS, i + 1, 0);
+    }
+    for (i = 0; i < HM_PORTS; i++) {
+        load(i + 1, HM_PLACES + i);
+    }
+    for (i = 0; i < HM_EXPECTED; i++) {
+        plain_step(HM_INPUT_CARRIER_NOTIFICATION, 0, 0, HM_PLACES + HM_PORTS + i);
+    }
+}
+
+/* Every row with every name, known and not, and every port, to a full tool. */
+static void every_row_to_a_full_tool(void)
+{
+    hm_tool full;
+    uint32_t number, port, letter;
+
+    fill();
+    full = tool;
+    good_codes(&in);
+    for (number = 1; number <= HM_INPUTS; number++) {
+        for (letter = 0; letter <= HM_RECORDS; letter++) {
+            for (port = 0; port <= HM_PORTS; port++) {
+                tool = full;
+                plain_step(number, port, 1, letter);
+            }
+        }
+    }
+    tool = full;
+}
+
+/* Runs by chance from a full tool and from set-up, now and then with a damaged byte. */
+static void by_chance(unsigned long inputs)
+{
+    hm_tool full = tool;
+    while (inputs-- > 0) {
+        if (below(100) == 0) {
+            tool = full;
+        } else if (below(300) == 0) {
+            set_up(1 + below(HM_PORTS + 1), below(HM_PLACES + 2));
+        } else if (below(300) == 0) {
+            ((uint8_t *)&tool)[below(sizeof tool)] ^= 0x55;
+        }
+        next_input(&in, &tool);
+        step();
+        run_on(&for_sound, call_sound);
+    }
+}
+
+static int figure(const struct painted *p)
+{
+    size_t bytes = used(p);
+    printf("stack %s %zu bytes\n", p->function, bytes);
+    if (bytes > HM_STACK_BYTES) {
+        fprintf(stderr, "that is more than HM_STACK_BYTES, %u\n", HM_STACK_BYTES);
+        return 1;
+    }
+    return 0;
+}
+
+int main(int argc, char **argv)
+{
+    int failed = 0;
+
+    prepare(&for_step);
+    prepare(&for_setup);
+    prepare(&for_sound);
+    chance_state = 1;
+    every_row_to_a_full_tool();
+    by_chance(argc > 1 ? strtoul(argv[1], NULL, 10) : 50000);
+    failed += figure(&for_step);
+    failed += figure(&for_setup);
+    failed += figure(&for_sound);
+    printf("over %lu accepted and %lu refused inputs, %lu records removed, %lu of them from a full tool of %lu\n", accepted,
+           refused, removed, removed_from_full, most_records);
+    if (accepted == 0 || refused == 0 || removed_from_full == 0 || most_records != HM_RECORDS) {
+        fprintf(stderr, "too little was met for this to mean anything\n");
+        failed++;
+    }
+    return failed != 0;
+}
