@@ -185,7 +185,8 @@ static void set_up(hm_tool *tool)
     }
     t = lend(&tool_room, placing, tool, sizeof *tool);
     if (hm_setup((hm_tool *)t.writable, ports, places) != (good ? 0u : 1u) ||
-        memcmp(t.readable, &expected, sizeof expected) != 0 || hm_sound((const hm_tool *)t.readable) != (uint32_t)good) {
+        memcmp(t.readable, &expected, sizeof expected) != 0 ||
+        hm_sound((const hm_tool *)t.readable) != (uint32_t)good) {
         wrong(&none, "set-up");
     }
     *tool = expected;

@@ -205,8 +205,8 @@ int main(int argc, char **argv)
     failed += figure(&for_step);
     failed += figure(&for_setup);
     failed += figure(&for_sound);
-    printf("over %lu accepted and %lu refused inputs, %lu records removed, %lu of them from a full tool of %lu\n", accepted,
-           refused, removed, removed_from_full, most_records);
+    printf("over %lu accepted and %lu refused inputs, %lu records removed, %lu of them from a full tool of %lu\n",
+           accepted, refused, removed, removed_from_full, most_records);
     if (accepted == 0 || refused == 0 || removed_from_full == 0 || most_records != HM_RECORDS) {
         fprintf(stderr, "too little was met for this to mean anything\n");
         failed++;
