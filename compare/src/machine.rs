@@ -1,0 +1,149 @@
+//! The two programs behind one face: the proved machine, by its C interface, and the independent program.
+
+use plainly::gen::Input;
+use plainly::{Plain, Reports, Tool};
+
+pub trait Machine {
+    fn setup(&self, ports: u32, places: u32, tool: &mut Tool) -> u32;
+    fn step(&self, tool: &mut Tool, input: &Input, reports: &mut Reports) -> u32;
+    fn sound(&self, tool: &Tool) -> u32;
+}
+
+extern "C" {
+    fn hm_setup(tool: *mut Tool, ports: u32, places: u32) -> u32;
+    fn hm_step(
+        tool: *mut Tool,
+        reports: *mut Reports,
+        number: u32,
+        port: u32,
+        value: u32,
+        name: *const u8,
+        name_length: u64,
+        codes: *const u8,
+        codes_length: u64,
+    ) -> u32;
+    fn hm_sound(tool: *const Tool) -> u32;
+    fn hm_tool_size() -> u32;
+    fn hm_reports_size() -> u32;
+}
+
+/// The proved machine, as the archive holds it.
+pub struct Proved;
+
+impl Machine for Proved {
+    fn setup(&self, ports: u32, places: u32, tool: &mut Tool) -> u32 {
+        // SAFETY: the tool is a struct of bytes, borrowed for the call.
+        unsafe { hm_setup(tool, ports, places) }
+    }
+
+    fn step(&self, tool: &mut Tool, input: &Input, reports: &mut Reports) -> u32 {
+        let (name, codes) = (&input.name, &input.codes);
+        // SAFETY: tool and reports are two structs of bytes, borrowed for the call; a vector's pointer is never null, and
+        // goes with its length.
+        unsafe {
+            hm_step(
+                tool,
+                reports,
+                input.number,
+                input.port,
+                input.value,
+                name.as_ptr(),
+                name.len() as u64,
+                codes.as_ptr(),
+                codes.len() as u64,
+            )
+        }
+    }
+
+    fn sound(&self, tool: &Tool) -> u32 {
+        // SAFETY: any bytes are a tool to this function.
+        unsafe { hm_sound(tool) }
+    }
+}
+
+impl Proved {
+    /// The sizes that the archive was built with, and those of the structs that are lent to it.
+    pub fn sizes() -> [(u32, usize); 2] {
+        // SAFETY: nothing goes in, a number comes out.
+        let said = unsafe { (hm_tool_size(), hm_reports_size()) };
+        [(said.0, size_of::<Tool>()), (said.1, size_of::<Reports>())]
+    }
+}
+
+/// The program written from document 01 alone.
+pub struct Independent;
+
+impl Machine for Independent {
+    fn setup(&self, ports: u32, places: u32, tool: &mut Tool) -> u32 {
+        plainly::setup(ports, places, tool)
+    }
+
+    fn step(&self, tool: &mut Tool, input: &Input, reports: &mut Reports) -> u32 {
+        plainly::step(tool, input.number, input.port, input.value, &input.name, &input.codes, reports)
+    }
+
+    fn sound(&self, tool: &Tool) -> u32 {
+        plainly::sound(tool) as u32
+    }
+}
+
+/// Everything that an input gives.
+#[derive(Clone)]
+pub struct Outcome {
+    pub answer: u32,
+    pub tool: Tool,
+    pub reports: Reports,
+}
+
+impl Outcome {
+    pub fn accepted(&self) -> bool {
+        self.answer == 0
+    }
+
+    pub fn same(&self, other: &Outcome) -> bool {
+        self.answer == other.answer
+            && self.tool.bytes() == other.tool.bytes()
+            && self.reports.bytes() == other.reports.bytes()
+    }
+}
+
+/// What stands in memory before it is written: an entry that a program leaves as it was is then seen.
+fn left_over<T: Plain>() -> T {
+    T::from_bytes(&vec![0xA5; size_of::<T>()]).expect("as long as it should be")
+}
+
+pub fn outcome(machine: &dyn Machine, tool: &Tool, input: &Input) -> Outcome {
+    let mut o = Outcome { answer: 0, tool: *tool, reports: left_over() };
+    o.answer = machine.step(&mut o.tool, input, &mut o.reports);
+    o
+}
+
+pub fn set_up(machine: &dyn Machine, ports: u32, places: u32) -> (u32, Tool) {
+    let mut tool = left_over();
+    let answer = machine.setup(ports, places, &mut tool);
+    (answer, tool)
+}
+
+/// The two programs side by side: what both say, or `None` where they differ.
+pub struct Both<'a> {
+    pub proved: &'a dyn Machine,
+    pub independent: &'a dyn Machine,
+}
+
+impl Both<'_> {
+    pub fn setup(&self, ports: u32, places: u32) -> Option<(u32, Tool)> {
+        let (answer, tool) = set_up(self.proved, ports, places);
+        let (other, another) = set_up(self.independent, ports, places);
+        (answer == other && tool.bytes() == another.bytes()).then_some((answer, tool))
+    }
+
+    pub fn step(&self, tool: &Tool, input: &Input) -> Option<Outcome> {
+        let o = outcome(self.proved, tool, input);
+        o.same(&outcome(self.independent, tool, input)).then_some(o)
+    }
+
+    pub fn sound(&self, tool: &Tool) -> Option<bool> {
+        let yes = self.proved.sound(tool);
+        (yes == self.independent.sound(tool)).then_some(yes == 1)
+    }
+}

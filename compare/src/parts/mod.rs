@@ -1,0 +1,36 @@
+//! The parts of the comparison. Each gives its inputs to both programs and counts them.
+
+pub mod damaged;
+pub mod edges;
+pub mod odd;
+pub mod runs;
+pub mod setups;
+pub mod states;
+pub mod twelve;
+
+use plainly::gen::Input;
+
+/// Numbers that are near a limit, or that one is tempted to cut short.
+pub const ODD: [u32; 12] = [0, 5, 17, 26, 27, 255, 256, 257, 1 << 16, 1 << 31, (1 << 31) - 1, u32::MAX];
+
+/// What a good number becomes where its high bits are lost.
+pub const LOST: [u32; 3] = [1 << 8, 1 << 16, 1 << 31];
+
+/// The three limits of a name: the shortest, the longest, and one byte more.
+pub const SHORTEST: &[u8] = b"A";
+pub const LONGEST: &[u8] = b"ABCDEFGHIJKLMNOP";
+pub const TOO_LONG: &[u8] = b"ABCDEFGHIJKLMNOPQ";
+
+pub fn input(number: u32, port: u32, value: u32, name: &[u8], codes: &[u8]) -> Input {
+    Input { number, port, value, name: name.to_vec(), codes: codes.to_vec() }
+}
+
+/// An input that names a port alone.
+pub fn at(number: u32, port: u32) -> Input {
+    input(number, port, 0, b"", b"")
+}
+
+/// An input that names a carrier alone.
+pub fn named(number: u32, name: &[u8]) -> Input {
+    input(number, 0, 0, name, b"")
+}

@@ -1,0 +1,36 @@
+//! Single inputs from random sound states, odd ones among them that no run reaches.
+
+use plainly::gen::{random_run_input, random_sound_tool, Input, Rng};
+use plainly::Tool;
+
+use crate::machine::Both;
+use crate::play::{from_state, Finding, Tally};
+
+/// Inputs from each state.
+const EACH: u64 = 4;
+
+pub fn compare(both: &Both, total: u64, rng: &mut Rng) -> Result<Tally, Finding> {
+    let mut tally = Tally::default();
+    for _ in 0..total.div_ceil(EACH) {
+        let tool = random_sound_tool(rng);
+        for k in 0..EACH {
+            let input = random_run_input(&tool, rng);
+            let after = from_state(both, &mut tally, &tool, &input)?.tool;
+            if k == 0 {
+                stays_sound(both, &tool, &input, &after)?;
+            }
+        }
+    }
+    Ok(tally)
+}
+
+fn stays_sound(both: &Both, tool: &Tool, input: &Input, after: &Tool) -> Result<(), Finding> {
+    match both.sound(after) {
+        Some(true) => Ok(()),
+        Some(false) => {
+            let why = "a sound state is followed by a sound one".into();
+            Err(Finding::Law(Box::new(*tool), input.clone(), why))
+        }
+        None => Err(Finding::Sound(Box::new(*after))),
+    }
+}

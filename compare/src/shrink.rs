@@ -1,0 +1,213 @@
+//! The shortest script that still shows a difference.
+
+use plainly::gen::Input;
+use plainly::{Carrier, Tool};
+
+use crate::machine::Both;
+use crate::script::Run;
+
+/// After how many inputs of the run the programs differ: 0 where they differ at the set-up.
+pub fn differs_after(both: &Both, run: &Run) -> Option<usize> {
+    let Some((_, mut tool)) = both.setup(run.ports, run.places) else {
+        return Some(0);
+    };
+    for (k, input) in run.inputs.iter().enumerate() {
+        match both.step(&tool, input) {
+            Some(o) => tool = o.tool,
+            None => return Some(k + 1),
+        }
+    }
+    None
+}
+
+/// The run cut behind its first difference, if it has one.
+fn cut(both: &Both, mut run: Run) -> Option<Run> {
+    let length = differs_after(both, &run)?;
+    run.inputs.truncate(length);
+    Some(run)
+}
+
+/// Drops inputs, singly and together, while a difference stays; then takes the smallest set-up and the plainest parts that
+/// still show one. In the end no one input and no two can be left out.
+pub fn shortest(both: &Both, run: &Run) -> Run {
+    let Some(mut best) = cut(both, run.clone()) else {
+        return run.clone();
+    };
+    loop {
+        let before = best.clone();
+        drop_stretches(both, &mut best);
+        drop_twos(both, &mut best);
+        rename(both, &mut best);
+        shrink_setup(both, &mut best);
+        plainer_inputs(both, &mut best);
+        if best == before {
+            return best;
+        }
+    }
+}
+
+/// Takes the candidate if it still shows a difference.
+fn take(both: &Both, best: &mut Run, candidate: Run) -> bool {
+    match cut(both, candidate) {
+        Some(run) => {
+            *best = run;
+            true
+        }
+        None => false,
+    }
+}
+
+/// Stretches of half the run, then of a quarter, and so on down to single inputs.
+fn drop_stretches(both: &Both, best: &mut Run) {
+    let mut size = best.inputs.len().div_ceil(2);
+    while size > 0 {
+        let mut at = 0;
+        while at < best.inputs.len() {
+            let mut candidate = best.clone();
+            candidate.inputs.drain(at..(at + size).min(best.inputs.len()));
+            if !take(both, best, candidate) {
+                at += size;
+            }
+        }
+        size /= 2;
+    }
+}
+
+/// Two inputs that only together can be left out, as a LoadStart and its LoadFail.
+fn drop_twos(both: &Both, best: &mut Run) {
+    let mut first = 0;
+    while first < best.inputs.len() {
+        let shorter = (first + 1..best.inputs.len()).any(|second| {
+            let mut candidate = best.clone();
+            candidate.inputs.remove(second);
+            candidate.inputs.remove(first);
+            take(both, best, candidate)
+        });
+        if !shorter {
+            first += 1;
+        }
+    }
+}
+
+fn shrink_setup(both: &Both, best: &mut Run) {
+    for ports in 1..best.ports.min(5) {
+        if take(both, best, Run { ports, ..best.clone() }) {
+            break;
+        }
+    }
+    for places in 0..best.places.min(17) {
+        if take(both, best, Run { places, ..best.clone() }) {
+            break;
+        }
+    }
+}
+
+/// A port by a lower number, and names by A, B and so on as they come, in all inputs at once.
+fn rename(both: &Both, best: &mut Run) {
+    for from in 2..=4 {
+        for to in 1..from {
+            let mut candidate = best.clone();
+            let named = candidate.inputs.iter_mut().filter(|input| input.port == from);
+            if named.map(|input| input.port = to).count() > 0 && take(both, best, candidate) {
+                break;
+            }
+        }
+    }
+    let mut names: Vec<Vec<u8>> = Vec::new();
+    for input in best.inputs.iter().filter(|input| !input.name.is_empty()) {
+        if !names.contains(&input.name) {
+            names.push(input.name.clone());
+        }
+    }
+    let mut candidate = best.clone();
+    for input in &mut candidate.inputs {
+        if let Some(at) = names.iter().position(|name| *name == input.name) {
+            input.name = vec![b'A' + at as u8 % 26];
+        }
+    }
+    take(both, best, candidate);
+}
+
+/// The same input with one part left out or made small.
+fn plainer(input: &Input) -> Vec<Input> {
+    let with = |port, value, name: &[u8], codes: &[u8]| Input {
+        number: input.number,
+        port,
+        value,
+        name: name.to_vec(),
+        codes: codes.to_vec(),
+    };
+    let (port, value, name, codes) = (input.port, input.value, &input.name[..], &input.codes[..]);
+    let all = [
+        with(port, value, name, &[]),
+        with(port, value, name, &codes[..codes.len() / 2]),
+        with(port, value, name, &vec![0; codes.len()]),
+        with(port, value, &[], codes),
+        with(port, value, b"A", codes),
+        with(port, value, &name[..name.len() / 2], codes),
+        with(0, value, name, codes),
+        with(1, value, name, codes),
+        with(port, 0, name, codes),
+        with(port, 1, name, codes),
+    ];
+    let size = |i: &Input| {
+        let large = i.codes.iter().filter(|&&code| code != 0).count();
+        (i.codes.len(), large, i.name.len(), i.port, i.value)
+    };
+    all.into_iter().filter(|one| size(one) < size(input)).collect()
+}
+
+fn plainer_inputs(both: &Both, best: &mut Run) {
+    for at in 0..best.inputs.len() {
+        // A candidate may be cut shorter than the place that is looked at.
+        while let Some(input) = best.inputs.get(at) {
+            let better = plainer(input).into_iter().any(|input| {
+                let mut candidate = best.clone();
+                candidate.inputs[at] = input;
+                take(both, best, candidate)
+            });
+            if !better {
+                break;
+            }
+        }
+    }
+}
+
+/// The state without record `i` and its tie; sound if the state was.
+fn without(tool: &Tool, i: usize) -> Tool {
+    let mut tool = *tool;
+    let port = tool.carrier[i].port as usize;
+    if let Some(port) = port.checked_sub(1).and_then(|p| tool.port.get_mut(p)) {
+        port.tie = [0; 16];
+    }
+    let count = tool.count as usize;
+    tool.carrier.copy_within(i + 1..count, i);
+    tool.carrier[count - 1] = Carrier::UNUSED;
+    tool.count -= 1;
+    tool
+}
+
+/// A state with fewer records that shows a difference still.
+pub fn smallest(tool: &Tool, differs: impl Fn(&Tool) -> bool) -> Tool {
+    let mut best = *tool;
+    let mut i = (best.count as usize).min(best.carrier.len());
+    while i > 0 {
+        i -= 1;
+        if best.count as usize <= best.carrier.len() {
+            let candidate = without(&best, i);
+            if differs(&candidate) {
+                best = candidate;
+            }
+        }
+    }
+    best
+}
+
+/// A single input that is plainer and shows a difference still.
+pub fn plainest(input: &Input, differs: impl Fn(&Input) -> bool) -> Input {
+    let mut best = input.clone();
+    while let Some(better) = plainer(&best).into_iter().find(|i| differs(i)) {
+        best = better;
+    }
+    best
+}

@@ -1,0 +1,229 @@
+//! Programs that are wrong on purpose, and the scripts that must be found for them.
+
+use plainly::gen::{random_run_input, Input, Rng};
+use plainly::{Report, Reports, Tool};
+
+use crate::machine::{Both, Independent, Machine, Outcome};
+use crate::parts::{damaged, edges, odd, runs, setups, states, twelve};
+use crate::play::{Finding, Player, Tally};
+use crate::script::Run;
+use crate::shrink::{differs_after, shortest};
+use crate::tell::tell;
+
+/// The independent program with a fault planted in what comes out of a step.
+struct Faulty<F: Fn(&Tool, &Input, &mut Outcome)>(F);
+
+impl<F: Fn(&Tool, &Input, &mut Outcome)> Machine for Faulty<F> {
+    fn setup(&self, ports: u32, places: u32, tool: &mut Tool) -> u32 {
+        Independent.setup(ports, places, tool)
+    }
+
+    fn step(&self, tool: &mut Tool, input: &Input, reports: &mut Reports) -> u32 {
+        let before = *tool;
+        let answer = Independent.step(tool, input, reports);
+        let mut o = Outcome { answer, tool: *tool, reports: *reports };
+        self.0(&before, input, &mut o);
+        (*tool, *reports) = (o.tool, o.reports);
+        o.answer
+    }
+
+    fn sound(&self, tool: &Tool) -> u32 {
+        Independent.sound(tool)
+    }
+}
+
+/// The inputs' numbers in the shortest script for a fault that random runs find.
+fn found(ports: u32, places: u32, fault: impl Fn(&Tool, &Input, &mut Outcome)) -> Run {
+    let faulty = Faulty(fault);
+    let both = Both { proved: &faulty, independent: &Independent };
+    let mut tally = Tally::default();
+    let mut player = Player::begin(&both, &mut tally, ports, places).unwrap();
+    let mut rng = Rng::new(3);
+    for _ in 0..20_000 {
+        let input = random_run_input(&player.tool, &mut rng);
+        match player.give(input) {
+            Ok(_) => {}
+            Err(Finding::Run(run)) => {
+                assert_eq!(differs_after(&both, &run), Some(run.inputs.len()));
+                let short = shortest(&both, &run);
+                assert_eq!(differs_after(&both, &short), Some(short.inputs.len()));
+                return short;
+            }
+            Err(other) => panic!("{other:?}"),
+        }
+    }
+    panic!("the fault was not found");
+}
+
+fn numbers(run: &Run) -> Vec<u32> {
+    run.inputs.iter().map(|input| input.number).collect()
+}
+
+#[test]
+fn a_fault_in_the_state_takes_two_inputs() {
+    let run = found(4, 16, |_, input, o| {
+        if input.number == 15 && o.accepted() {
+            o.tool.port[input.port as usize - 1].reserved = 1;
+        }
+    });
+    assert_eq!(run.script(), "setup 1 0\nin 13 1 0 - -\nin 15 1 0 - -\n");
+}
+
+#[test]
+fn a_lost_report_takes_four_inputs() {
+    let run = found(3, 5, |_, _, o| {
+        if o.reports.count == 7 {
+            o.reports.items[6] = Report::UNUSED;
+        }
+    });
+    assert_eq!(run.script(), "setup 1 0\nin 1 1 0 41 -\nin 13 1 0 - -\nin 14 1 0 - -\nin 16 1 0 42 -\n");
+}
+
+/// The temptation that document 01 names: a cancelled carrier in the buffer is opened because its ID is still OK.
+#[test]
+fn a_wrong_answer_deep_in_a_run_takes_seven_inputs() {
+    let run = found(4, 16, |before, input, o| {
+        let named = |c: &&plainly::Carrier| plainly::gen::unpadded(&c.name) == input.name;
+        let cancelled = before.carriers().iter().find(named).is_some_and(|c| c.cancelled == 1 && c.id == 3);
+        if input.number == 19 && o.answer == 7 && cancelled && before.places > 0 {
+            o.answer = 0;
+        }
+    });
+    assert_eq!((run.ports, run.places), (1, 1));
+    let numbers = numbers(&run);
+    assert_eq!((numbers.len(), numbers[6]), (7, 19), "{numbers:?}");
+}
+
+#[test]
+fn a_fault_of_the_set_up_needs_no_input() {
+    struct FivePorts;
+    impl Machine for FivePorts {
+        fn setup(&self, ports: u32, places: u32, tool: &mut Tool) -> u32 {
+            Independent.setup(if ports == 260 { 4 } else { ports }, places, tool)
+        }
+        fn step(&self, tool: &mut Tool, input: &Input, reports: &mut Reports) -> u32 {
+            Independent.step(tool, input, reports)
+        }
+        fn sound(&self, tool: &Tool) -> u32 {
+            Independent.sound(tool)
+        }
+    }
+    let both = Both { proved: &FivePorts, independent: &Independent };
+    let Err(finding @ Finding::Run(_)) = setups::compare(&both, &mut Rng::new(1)) else {
+        panic!("the fault was not found");
+    };
+    let told = tell(&both, &finding);
+    assert!(told.contains("setup 260 0\nproved       setup 0\nindependent  setup 1\n"), "{told}");
+    assert!(told.contains("byte 0, ports: proved 4, independent 0"), "{told}");
+}
+
+#[test]
+fn a_run_without_a_difference_stays_as_it_is() {
+    let both = Both { proved: &Independent, independent: &Independent };
+    let run = Run { ports: 1, places: 0, inputs: vec![Input { number: 13, port: 1, ..Input::default() }] };
+    assert_eq!(shortest(&both, &run), run);
+}
+
+/// The first finding of all parts, with few inputs in each.
+fn first_finding(both: &Both) -> Option<Finding> {
+    let mut rng = Rng::new(5);
+    let mut all = || -> Result<(), Finding> {
+        twelve::compare(both)?;
+        edges::compare(both)?;
+        setups::compare(both, &mut rng)?;
+        runs::compare(both, 5_000, &mut rng)?;
+        states::compare(both, 5_000, &mut rng)?;
+        damaged::every_byte(both, 1, &mut rng)?;
+        damaged::mixed_up(both, 2_000, &mut rng)?;
+        damaged::random_bytes(both, 2_000, &mut rng)?;
+        odd::compare(both, 20_000, &mut rng)?;
+        Ok(())
+    };
+    all().err()
+}
+
+#[test]
+fn two_programs_that_agree_show_nothing() {
+    assert!(first_finding(&Both { proved: &Independent, independent: &Independent }).is_none());
+}
+
+/// Where both programs are wrong alike, document 01's own answers tell.
+#[test]
+fn both_wrong_alike_is_against_document_01() {
+    let wrong = Faulty(|_, input, o| {
+        if input.number == 18 && o.answer == 1 {
+            o.answer = 5;
+        }
+    });
+    let both = Both { proved: &wrong, independent: &wrong };
+    assert!(matches!(edges::compare(&both), Err(Finding::Document(..))));
+    let told = Faulty(|_, _, o| o.reports.items[0].new ^= (o.reports.count == 2) as u8);
+    let both = Both { proved: &told, independent: &told };
+    assert!(matches!(twelve::compare(&both), Err(Finding::Document(..))));
+    let changed = Faulty(|_, _, o| o.tool.port[3].tag ^= (o.answer == 8) as u8);
+    let both = Both { proved: &changed, independent: &changed };
+    assert!(matches!(first_finding(&both), Some(Finding::Document(_, why)) if why.contains("refusal")));
+}
+
+/// A program that cuts a port to a byte differs only on odd numbers.
+#[test]
+fn a_cut_number_is_found() {
+    struct Cuts;
+    impl Machine for Cuts {
+        fn setup(&self, ports: u32, places: u32, tool: &mut Tool) -> u32 {
+            Independent.setup(ports, places, tool)
+        }
+        fn step(&self, tool: &mut Tool, input: &Input, reports: &mut Reports) -> u32 {
+            Independent.step(tool, &Input { port: input.port & 0xFFFF, ..input.clone() }, reports)
+        }
+        fn sound(&self, tool: &Tool) -> u32 {
+            Independent.sound(tool)
+        }
+    }
+    let both = Both { proved: &Cuts, independent: &Independent };
+    let Some(finding @ Finding::Run(_)) = first_finding(&both) else { panic!("the fault was not found") };
+    let Finding::Run(run) = &finding else { unreachable!() };
+    assert_eq!(shortest(&both, run).inputs.len(), 1);
+}
+
+/// A program that holds some states for sound that aren't, and one that answers them.
+#[test]
+fn a_fault_of_soundness_is_shown_with_the_bytes() {
+    struct Trusting;
+    impl Machine for Trusting {
+        fn setup(&self, ports: u32, places: u32, tool: &mut Tool) -> u32 {
+            Independent.setup(ports, places, tool)
+        }
+        fn step(&self, tool: &mut Tool, input: &Input, reports: &mut Reports) -> u32 {
+            Independent.step(tool, input, reports)
+        }
+        fn sound(&self, tool: &Tool) -> u32 {
+            let mut mended = *tool;
+            mended.carrier.iter_mut().for_each(|c| c.came_out &= 1);
+            Independent.sound(&mended)
+        }
+    }
+    let both = Both { proved: &Trusting, independent: &Independent };
+    let Some(finding @ Finding::Sound(_)) = first_finding(&both) else { panic!("the fault was not found") };
+    let told = tell(&both, &finding);
+    assert!(told.contains("proved       sound\nindependent  not sound\n"), "{told}");
+    assert_eq!(told.matches("  record ").count(), 1, "{told}");
+}
+
+#[test]
+fn a_fault_that_no_run_reaches_is_shown_with_the_bytes() {
+    // READY TO UNLOAD without a pod.
+    let faulty = Faulty(|before, input, o| {
+        let port = before.port.get((input.port as usize).wrapping_sub(1));
+        let odd = port.is_some_and(|p| p.transfer == 2 && p.pod == 0);
+        if input.number == 24 && odd && o.accepted() {
+            o.answer = 5;
+        }
+    });
+    let both = Both { proved: &faulty, independent: &Independent };
+    let Some(finding @ Finding::State(..)) = first_finding(&both) else { panic!("the fault was not found") };
+    let told = tell(&both, &finding);
+    assert!(told.contains("\nin 24 ") && told.contains("  head ") && !told.contains("setup"), "{told}");
+    assert_eq!(told.matches("  record ").count(), 0, "{told}");
+    assert!(told.contains("proved       5 1 [1 "), "{told}");
+}
