@@ -43,7 +43,7 @@ impl Tally {
 }
 
 /// Why an outcome on which the programs agree is against document 01, whatever the row.
-fn unlawful(before: &Tool, input: &Input, o: &Outcome) -> Option<String> {
+pub fn unlawful(before: &Tool, input: &Input, o: &Outcome) -> Option<String> {
     use plainly::Plain;
     if !may_answer(input.number, o.answer) {
         return Some(format!("row {} has no answer {}", input.number, o.answer));

@@ -3,21 +3,29 @@
 use plainly::gen::Input;
 use plainly::{Carrier, Tool};
 
-use crate::machine::Both;
+use crate::machine::{Both, Outcome};
+use crate::play::unlawful;
 use crate::script::Run;
 
-/// After how many inputs of the run the programs differ: 0 where they differ at the set-up.
+/// After how many inputs of the run the programs differ, or are both against document 01: 0 where they differ at the set-up.
 pub fn differs_after(both: &Both, run: &Run) -> Option<usize> {
     let Some((_, mut tool)) = both.setup(run.ports, run.places) else {
         return Some(0);
     };
     for (k, input) in run.inputs.iter().enumerate() {
-        match both.step(&tool, input) {
+        let lawful =
+            both.step(&tool, input).filter(|o| unlawful(&tool, input, o).is_none() && stays(both, &tool, o));
+        match lawful {
             Some(o) => tool = o.tool,
             None => return Some(k + 1),
         }
     }
     None
+}
+
+/// A sound state is followed by a sound one.
+fn stays(both: &Both, tool: &Tool, o: &Outcome) -> bool {
+    both.sound(&o.tool) == Some(true) || both.sound(tool) != Some(true)
 }
 
 /// The run cut behind its first difference, if it has one.

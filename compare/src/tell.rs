@@ -16,7 +16,7 @@ pub fn tell(both: &Both, finding: &Finding) -> String {
         Finding::State(tool, input) => tell_state(both, tool, input),
         Finding::Sound(tool) => tell_sound(both, tool),
         Finding::Document(run, why) => {
-            format!("BOTH ARE AGAINST DOCUMENT 01: {why}. The script:\n{}", run.script())
+            format!("BOTH ARE AGAINST DOCUMENT 01: {why}. The script:\n{}", shortest(both, run).script())
         }
         Finding::Law(tool, input, why) => {
             format!("BOTH ARE AGAINST DOCUMENT 01: {why}. From the state\n{}{}\n", bytes(tool), line(input))

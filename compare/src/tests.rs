@@ -96,8 +96,8 @@ fn a_wrong_answer_deep_in_a_run_takes_seven_inputs() {
 
 #[test]
 fn a_fault_of_the_set_up_needs_no_input() {
-    struct FivePorts;
-    impl Machine for FivePorts {
+    struct CutsPorts;
+    impl Machine for CutsPorts {
         fn setup(&self, ports: u32, places: u32, tool: &mut Tool) -> u32 {
             Independent.setup(if ports == 260 { 4 } else { ports }, places, tool)
         }
@@ -108,7 +108,7 @@ fn a_fault_of_the_set_up_needs_no_input() {
             Independent.sound(tool)
         }
     }
-    let both = Both { proved: &FivePorts, independent: &Independent };
+    let both = Both { proved: &CutsPorts, independent: &Independent };
     let Err(finding @ Finding::Run(_)) = setups::compare(&both, &mut Rng::new(1)) else {
         panic!("the fault was not found");
     };
@@ -147,22 +147,93 @@ fn two_programs_that_agree_show_nothing() {
     assert!(first_finding(&Both { proved: &Independent, independent: &Independent }).is_none());
 }
 
-/// Where both programs are wrong alike, document 01's own answers tell.
+/// Why document 01 is against two programs that are wrong alike.
+fn against(
+    fault: impl Fn(&Tool, &Input, &mut Outcome),
+    part: impl Fn(&Both, &mut Rng) -> Result<(), Finding>,
+) -> String {
+    let faulty = Faulty(fault);
+    match part(&Both { proved: &faulty, independent: &faulty }, &mut Rng::new(5)) {
+        Err(Finding::Document(_, why) | Finding::Law(_, _, why)) => why,
+        Err(other) => panic!("{other:?}"),
+        Ok(()) => panic!("the fault was not found"),
+    }
+}
+
 #[test]
 fn both_wrong_alike_is_against_document_01() {
-    let wrong = Faulty(|_, input, o| {
-        if input.number == 18 && o.answer == 1 {
-            o.answer = 5;
+    let why = against(
+        |_, input, o| o.answer = if input.number == 18 && o.answer == 1 { 5 } else { o.answer },
+        |both, _| edges::compare(both).map(drop),
+    );
+    assert_eq!(why, "the last input is answered 1, not 5");
+    let why = against(
+        |_, _, o| o.reports.items[0].new ^= (o.reports.count == 2) as u8,
+        |both, _| twelve::compare(both).map(drop),
+    );
+    assert_eq!(why, "the last input reports 1 1 1>3; 3 1 1>0, not 1 1 1>2; 3 1 1>0");
+    let why = against(
+        |_, _, o| o.tool.port[3].tag ^= (o.answer == 8) as u8,
+        |both, rng| runs::compare(both, 5_000, rng).map(drop),
+    );
+    assert_eq!(why, "a refusal changes no state and leaves no report");
+    let why = against(
+        |_, input, o| o.answer = if input.number == 13 && o.answer == 5 { 8 } else { o.answer },
+        |both, rng| runs::compare(both, 5_000, rng).map(drop),
+    );
+    assert_eq!(why, "row 13 has no answer 8");
+    let why =
+        against(|_, _, o| o.reports.items[6].old = 1, |both, rng| states::compare(both, 100, rng).map(drop));
+    assert_eq!(why, "at most seven reports, and zeros past the count");
+}
+
+/// Such a run is shrunk too.
+#[test]
+fn a_run_against_document_01_is_short() {
+    let wrong =
+        Faulty(|_, input, o| o.answer = if input.number == 13 && o.answer == 5 { 8 } else { o.answer });
+    let spoils = Faulty(|_, input, o| o.tool.port[0].tag += 7 * (input.number == 13 && o.accepted()) as u8);
+    for (faulty, lines) in [(&wrong as &dyn Machine, 3), (&spoils, 2)] {
+        let both = Both { proved: faulty, independent: faulty };
+        let finding = runs::compare(&both, 5_000, &mut Rng::new(5)).err().expect("a finding");
+        let told = tell(&both, &finding);
+        assert!(told.starts_with("BOTH ARE AGAINST DOCUMENT 01"), "{told}");
+        assert_eq!(told.lines().count(), 1 + lines, "{told}");
+    }
+}
+
+#[test]
+fn unsound_states_are_against_document_01() {
+    let spoils = |_: &Tool, input: &Input, o: &mut Outcome| {
+        o.tool.port[0].tag = if input.number == 13 && o.accepted() { 7 } else { o.tool.port[0].tag };
+    };
+    let why = against(spoils, |both, rng| runs::compare(both, 5_000, rng).map(drop));
+    assert_eq!(why, "every state that a run reaches is sound");
+    let why = against(spoils, |both, rng| states::compare(both, 5_000, rng).map(drop));
+    assert_eq!(why, "a sound state is followed by a sound one");
+    let why = against(
+        |before, input, o| o.answer = if plainly::sound(before) || input.number != 10 { o.answer } else { 4 },
+        |both, rng| damaged::every_byte(both, 1, rng).map(drop),
+    );
+    assert_eq!(why, "a state that isn't sound is answered 1");
+}
+
+/// 0x7F in a name, or a code 6, held for good by both.
+#[test]
+fn odd_names_and_codes_have_document_01s_answers() {
+    let mends = |input: &Input, o: &mut Outcome, before: &Tool, good: Input| {
+        if good != *input {
+            o.tool = *before;
+            o.answer = Independent.step(&mut o.tool, &good, &mut o.reports);
         }
-    });
-    let both = Both { proved: &wrong, independent: &wrong };
-    assert!(matches!(edges::compare(&both), Err(Finding::Document(..))));
-    let told = Faulty(|_, _, o| o.reports.items[0].new ^= (o.reports.count == 2) as u8);
-    let both = Both { proved: &told, independent: &told };
-    assert!(matches!(twelve::compare(&both), Err(Finding::Document(..))));
-    let changed = Faulty(|_, _, o| o.tool.port[3].tag ^= (o.answer == 8) as u8);
-    let both = Both { proved: &changed, independent: &changed };
-    assert!(matches!(first_finding(&both), Some(Finding::Document(_, why)) if why.contains("refusal")));
+    };
+    let name = |i: &Input| i.name.iter().map(|&b| if b == 0x7F { b'~' } else { b }).collect();
+    let codes = |i: &Input| i.codes.iter().map(|&c| if c == 6 { 5 } else { c }).collect();
+    let part = |both: &Both, rng: &mut Rng| odd::compare(both, 1, rng).map(drop);
+    let why = against(|before, i, o| mends(i, o, before, Input { name: name(i), ..i.clone() }), part);
+    assert_eq!(why, "the last input is answered 1, not 0");
+    let why = against(|before, i, o| mends(i, o, before, Input { codes: codes(i), ..i.clone() }), part);
+    assert_eq!(why, "the last input is answered 1, not 0");
 }
 
 /// A program that cuts a port to a byte differs only on odd numbers.

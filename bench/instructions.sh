@@ -1,0 +1,117 @@
+#!/usr/bin/env bash
+# Instructions of one input to the proved machine (one call of hm_step, all that it calls included): the mean over a mix, the
+# worst input, and how both grow with the number of live carriers.
+#
+#   bench/instructions.sh [PROGRAM]    PROGRAM is the release build of this folder, target/release/bench if none is given
+#
+# On an x86-64 machine valgrind's callgrind counts them. Elsewhere, or where valgrind is missing, qemu-x86_64 does, with the
+# plugin count.c. Where there is neither, it says so and ends without a failure.
+set -euo pipefail
+here=$(cd "$(dirname "$0")" && pwd)
+program=${1:-$here/target/${CARGO_BUILD_TARGET:+$CARGO_BUILD_TARGET/}release/bench}
+rows=26
+work=$(mktemp -d)
+trap 'rm -rf "$work"' EXIT
+
+choose_counter() {
+    if [ "$(uname -m)" = x86_64 ] && command -v valgrind >/dev/null; then
+        counter=callgrind
+    elif command -v qemu-x86_64 >/dev/null && gcc -O2 -shared -fPIC -o "$work/count.so" "$here/count.c" 2>"$work/gcc"; then
+        counter=qemu
+    else
+        echo "no instructions counted: neither valgrind on an x86-64 machine, nor qemu-x86_64 and gcc for its plugin"
+        exit 0
+    fi
+}
+
+under_callgrind() {
+    valgrind --tool=callgrind --toggle-collect=hm_step --dump-after=hm_step --combine-dumps=yes \
+        --callgrind-out-file="$work/out" "$program" "$@" >"$work/labels" 2>"$work/errors"
+    # One part for each call, and what is left at the end.
+    awk '/^summary:/ { print $2 }' "$work/out" | sed '$d' >"$work/counts"
+}
+
+under_qemu() {
+    qemu-x86_64 -plugin "$work/count.so" -d plugin -D "$work/counts" "$program" "$@" >"$work/labels" 2>"$work/errors"
+}
+
+# Plays what bench is told to, and prints a line for each call: COUNT CARRIERS NUMBER ANSWER NAMES PORT VALUE NAME CODES
+counted() {
+    local calls
+    "under_$counter" "$@" || { cat "$work/errors" >&2; echo "bench $* failed" >&2; exit 1; }
+    calls=$(wc -l <"$work/labels")
+    if [ "$calls" -eq 0 ] || [ "$calls" -ne "$(wc -l <"$work/counts")" ]; then
+        echo "bench $*: $calls calls, but $(wc -l <"$work/counts") counts by $counter" >&2
+        exit 1
+    fi
+    paste -d ' ' "$work/counts" "$work/labels"
+}
+
+mean() { awk '{ sum += $1 } END { printf "%.0f", sum / NR }'; }
+
+most() { sort -n | tail -n 1 | cut -d ' ' -f 1; }
+
+print_mean() {
+    counted play 5000 27 >"$work/mix"
+    echo "instructions of one input, P = 4, B = 16, counted by $counter"
+    echo
+    echo "5000 mixed inputs, some 27 live carriers"
+    printf '  mean %9s\n' "$(mean <"$work/mix")"
+    printf '  most %9s\n' "$(most <"$work/mix")"
+}
+
+worst_of() { sort -n "$1" | tail -n 1; }
+
+# Rows 1 to 3, 7, 11, 12 and 18 can't be accepted with 36 records, so fewer are tried as well. The row that takes the most is
+# then searched further.
+print_worst() {
+    local carriers row
+    for carriers in 32 33 34 35 36; do
+        counted search $((rows * 12)) "$carriers"
+    done >"$work/search"
+    read -r _ carriers row _ <<<"$(worst_of "$work/search")"
+    counted play 1000 "$carriers" "$row" >>"$work/search"
+    echo
+    echo "the most for each row, over $(wc -l <"$work/search") states with 32 to 36 live carriers"
+    awk -v rows=$rows '
+        { kind = $4 == 0 ? "accepted" : "refused" }
+        $1 > top[$3, kind] { top[$3, kind] = $1 }
+        END {
+            printf "  %3s %9s %9s\n", "row", "accepted", "refused"
+            for (row = 1; row <= rows; row++) printf "  %3d %9s %9s\n", row, top[row, "accepted"], top[row, "refused"]
+        }' "$work/search"
+    echo
+    worst_of "$work/search" | awk '{
+        printf "the worst input %s\n", $1
+        printf "  row %s answered %s, %s live carriers, names of the kind %s, ", $3, $4, $2, $5
+        printf "port %s, value %s, name %s, %s codes\n", $6, $7, $8, $9 }'
+    counted unsound $((rows * 12)) 36 >"$work/unsound"
+    echo "the most where the state isn't sound $(most <"$work/unsound")"
+}
+
+print_growth() {
+    local carriers input
+    echo
+    echo "by the number of live carriers (that of the mix stays within two of it)"
+    printf '  %8s %9s %13s %9s %11s %9s\n' carriers 'mix, mean' ChangeAccess IdRead UnloadDone 'any, most'
+    for carriers in 0 4 8 12 16 20 24 28 32 36; do
+        counted play 300 "$carriers" >"$work/now"
+        printf '  %8s %9s' "$carriers" "$(mean <"$work/now")"
+        counted search $((rows * 4)) "$carriers" >"$work/any"
+        for input in ChangeAccess:13 IdRead:9 UnloadDone:11; do
+            counted play 6 "$carriers" "${input%:*}" >"$work/now"
+            printf " %${input#*:}s" "$(most <"$work/now")"
+            cat "$work/now" >>"$work/any"
+        done
+        printf ' %9s\n' "$(most <"$work/any")"
+    done
+}
+
+if [ ! -x "$program" ]; then
+    echo "no program $program: build it first (cargo build --release in bench)" >&2
+    exit 2
+fi
+choose_counter
+print_mean
+print_worst
+print_growth

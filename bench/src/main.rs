@@ -1,0 +1,52 @@
+//! The figures: time per input of the proved machine and of the independent program, and inputs to count instructions of.
+
+mod machine;
+mod mix;
+mod play;
+mod states;
+mod time;
+
+use std::process::ExitCode;
+
+const USAGE: &str = "\
+usage: bench time [N [ROUNDS]]         time per input of N mixed inputs; the last line is the ratio
+       bench play N CARRIERS           plays N mixed inputs near so many live carriers to the proved machine
+       bench play N CARRIERS INPUT     plays one input, by its document 01 name or number, from N prepared states
+       bench search N CARRIERS         plays every row in turn, accepted and refused, from N prepared states
+       bench unsound N CARRIERS        plays every row in turn from N states that aren't sound
+N and ROUNDS from 1, CARRIERS from 0 to 36";
+
+fn number(word: &str, from: usize, to: usize) -> Option<usize> {
+    word.parse().ok().filter(|n| (from..=to).contains(n))
+}
+
+fn run(words: &[&str]) -> Option<Result<(), String>> {
+    let count = |word: &str| number(word, 1, usize::MAX);
+    let carriers = |word: &str| number(word, 0, plainly::MAX_CARRIERS);
+    match words {
+        ["time"] => Some(time::time(1_000_000, 7)),
+        ["time", n] => Some(time::time(count(n)?, 7)),
+        ["time", n, rounds] => Some(time::time(count(n)?, count(rounds)?)),
+        ["play", n, c] => Some(Ok(play::mix(count(n)?, carriers(c)?))),
+        ["play", n, c, input] => Some(Ok(play::one_row(play::row_of(input)?, count(n)?, carriers(c)?))),
+        ["unsound", n, c] => Some(Ok(play::unsound(count(n)?, carriers(c)?))),
+        ["search", n, c] => Some(Ok(play::search(count(n)?, carriers(c)?))),
+        _ => None,
+    }
+}
+
+fn main() -> ExitCode {
+    let words: Vec<String> = std::env::args().skip(1).collect();
+    let words: Vec<&str> = words.iter().map(String::as_str).collect();
+    match run(&words) {
+        Some(Ok(())) => ExitCode::SUCCESS,
+        Some(Err(why)) => {
+            eprintln!("bench: {why}");
+            ExitCode::FAILURE
+        }
+        None => {
+            eprintln!("{USAGE}");
+            ExitCode::from(2)
+        }
+    }
+}

@@ -1,0 +1,97 @@
+//! Inputs played to the proved machine alone, for what counts instructions. One line for each call of `hm_step`, in the order
+//! of the calls:   CARRIERS NUMBER ANSWER NAMES PORT VALUE NAME CODES   (CODES is how many)
+
+use plainly::gen::{Input, Rng};
+use plainly::{Reports, Tool};
+
+use crate::machine::caller_of_hm_step;
+use crate::mix::record;
+use crate::states::{damaged, prepared, FAMILIES};
+
+/// Document 01's names of the inputs.
+const INPUTS: [&str; 26] = [
+    "Bind",
+    "CancelBind",
+    "CarrierNotification",
+    "CancelCarrierNotification",
+    "ProceedWithCarrier",
+    "CancelCarrier",
+    "CarrierOut",
+    "CarrierIn",
+    "ChangeAccess",
+    "ChangeServiceStatus",
+    "ReserveAtPort",
+    "CancelReservationAtPort",
+    "LoadStart",
+    "LoadDone",
+    "LoadFail",
+    "IdRead",
+    "IdReadFailed",
+    "MoveIn",
+    "Open",
+    "SlotMap",
+    "AccessStart",
+    "AccessEnd",
+    "Close",
+    "UnloadStart",
+    "UnloadDone",
+    "UnloadFail",
+];
+
+/// The row of an input that is given by its name or its number.
+pub fn row_of(word: &str) -> Option<u32> {
+    let named = INPUTS.iter().position(|input| *input == word).map(|at| at as u32 + 1);
+    named.or_else(|| word.parse().ok().filter(|row| (1..=INPUTS.len() as u32).contains(row)))
+}
+
+/// A recorded mix, near a number of live carriers.
+pub fn mix(count: usize, carriers: usize) {
+    let mix = record(count, carriers);
+    let mut tool = mix.start;
+    let mut reports = Reports::NONE;
+    for i in mix.inputs() {
+        let live = tool.count;
+        let answer = caller_of_hm_step(&mut tool, i.number, i.port, i.value, i.name, i.codes, &mut reports);
+        println!("{live} {} {answer} mixed", i.number);
+    }
+}
+
+fn call(tool: &Tool, i: &Input, names: &str) {
+    let mut next = *tool;
+    let mut reports = Reports::NONE;
+    let answer = caller_of_hm_step(&mut next, i.number, i.port, i.value, &i.name, &i.codes, &mut reports);
+    let name = String::from_utf8_lossy(&i.name);
+    let (carriers, number, port, value, codes) = (tool.count, i.number, i.port, i.value, i.codes.len());
+    println!("{carriers} {number} {answer} {names} {port} {value} {name} {codes}");
+}
+
+/// One row, each time from another prepared state with so many live carriers; accepted where some state can have it so.
+pub fn one_row(row: u32, count: usize, carriers: usize) {
+    let mut rng = Rng::new(87);
+    for k in 0..count {
+        let family = k % FAMILIES.len();
+        let (state, input) = prepared(carriers, family, row, true, &mut rng);
+        call(&state, &input, FAMILIES[family]);
+    }
+}
+
+/// Every row in turn, accepted and refused, each from another prepared state: where the worst input is looked for.
+pub fn search(count: usize, carriers: usize) {
+    let mut rng = Rng::new(312);
+    for k in 0..count {
+        let (row, turn) = (1 + (k % INPUTS.len()) as u32, k / INPUTS.len());
+        let family = turn / 2 % FAMILIES.len();
+        let (state, input) = prepared(carriers, family, row, turn % 2 == 0, &mut rng);
+        call(&state, &input, FAMILIES[family]);
+    }
+}
+
+/// Every row in turn from a state that isn't sound.
+pub fn unsound(count: usize, carriers: usize) {
+    let mut rng = Rng::new(1);
+    for k in 0..count {
+        let row = 1 + (k % INPUTS.len()) as u32;
+        let (state, input) = prepared(carriers, 0, row, true, &mut rng);
+        call(&damaged(&state, &mut rng), &input, "damaged");
+    }
+}

@@ -1,0 +1,208 @@
+//! Prepared states: sound tools of P = 4 and B = 16 with a given number of records, and an input for each.
+
+use plainly::gen::{pool_name, Input, Rng, POOL};
+use plainly::{accessing, movement, place, setup, sound, status, step, tag, transfer};
+use plainly::{Carrier, Plain, Port, Reports, Tool, MAX_CARRIERS, NAME_LEN};
+
+/// Families of names, each slow to tell apart in another way.
+pub const FAMILIES: [&str; 6] = ["mixed", "prefix", "suffix", "middle", "short", "permuted"];
+
+/// Name `k` of a family, from 0 to 43.
+pub fn name(family: usize, k: u32) -> Vec<u8> {
+    let letter = 0x30 + k as u8;
+    let mut name = *b"CARRIER-NAME-16B";
+    match FAMILIES[family] {
+        "mixed" => return pool_name(k),
+        "short" => return vec![letter],
+        "prefix" => name[NAME_LEN - 1] = letter,
+        "suffix" => name[0] = letter,
+        "middle" => name[NAME_LEN / 2] = letter,
+        // The same bytes, turned and swapped: their sum and their exclusive or are the same.
+        _ => {
+            name = *b"ABCDEFGHIJKLMNOP";
+            name.rotate_left(k as usize % NAME_LEN);
+            name.swap(k as usize / NAME_LEN, 15);
+        }
+    }
+    name.to_vec()
+}
+
+fn padded(name: &[u8]) -> [u8; NAME_LEN] {
+    let mut to = [0; NAME_LEN];
+    to[..name.len()].copy_from_slice(name);
+    to
+}
+
+fn port(rng: &mut Rng) -> Port {
+    let (transfer, movement) = rng.pick(&[
+        (transfer::OUT_OF_SERVICE, movement::NONE),
+        (transfer::READY_TO_LOAD, movement::NONE),
+        (transfer::READY_TO_UNLOAD, movement::NONE),
+        (transfer::BLOCKED, movement::NONE),
+        (transfer::BLOCKED, movement::NONE),
+        (transfer::BLOCKED, movement::LOADING),
+        (transfer::BLOCKED, movement::UNLOADING),
+    ]);
+    let empty = transfer <= transfer::READY_TO_LOAD || movement == movement::LOADING;
+    Port {
+        transfer,
+        access: rng.below(2) as u8,
+        reserved: rng.below(2) as u8,
+        tie: [0; NAME_LEN],
+        movement,
+        pod: if empty { 0 } else { rng.chance(90) as u8 },
+        tag: rng.pick(&[tag::UNREAD, tag::READ, tag::FAILED]),
+    }
+}
+
+/// Where each of 36 carriers would be: four at the ports, sixteen in the buffer, sixteen expected.
+fn seat(k: usize) -> Carrier {
+    match k {
+        0..4 => Carrier { place: place::PORT, port: k as u8 + 1, ..Carrier::UNUSED },
+        4..20 => Carrier { place: place::BUFFER, spot: k as u8 - 3, ..Carrier::UNUSED },
+        _ => Carrier::UNUSED,
+    }
+}
+
+fn shuffled<T: Copy>(mut items: Vec<T>, rng: &mut Rng) -> Vec<T> {
+    for i in (1..items.len()).rev() {
+        items.swap(i, rng.below(i as u32 + 1) as usize);
+    }
+    items
+}
+
+fn statuses(c: &mut Carrier, rng: &mut Rng) {
+    if c.placed() {
+        c.id = rng.pick(&[status::NOT_READ, status::WAITING, status::OK, status::OK, status::FAILED]);
+        c.slot = rng.pick(&[status::NOT_READ, status::WAITING, status::OK, status::FAILED]);
+        c.accessing = rng.pick(&[
+            accessing::NOT_ACCESSED,
+            accessing::NOT_ACCESSED,
+            accessing::IN_ACCESS,
+            accessing::COMPLETE,
+        ]);
+        c.cancelled = rng.chance(20) as u8;
+        c.came_out = rng.chance(40) as u8;
+        c.map.fill(rng.below(6) as u8);
+    } else {
+        (c.id, c.slot, c.accessing) = (status::NOT_READ, status::NOT_READ, accessing::NOT_ACCESSED);
+    }
+}
+
+/// A sound tool with so many records.
+fn tool(carriers: usize, family: usize, rng: &mut Rng) -> Tool {
+    let mut tool = Tool::NONE;
+    setup(4, 16, &mut tool);
+    tool.port = [0; 4].map(|_| port(rng));
+    let mut seats = shuffled((0..MAX_CARRIERS).map(seat).collect(), rng);
+    seats.truncate(carriers);
+    let mut free: Vec<u8> = (1..=4).filter(|&p| seats.iter().all(|c| c.port != p)).collect();
+    let (tying, opened) = (rng.pick(&[0, 0, 25]), rng.below(carriers as u32 + 1) as usize);
+    for (k, mut c) in seats.into_iter().enumerate() {
+        c.name = padded(&name(family, k as u32));
+        statuses(&mut c, rng);
+        if c.expected() && rng.chance(tying) {
+            c.port = free.pop().unwrap_or(0);
+        }
+        if c.port != 0 {
+            tool.port[c.port as usize - 1].tie = c.name;
+        }
+        let at = &tool.port[(c.port as usize).max(1) - 1];
+        let opener = c.in_buffer() || c.at_port() && at.idle() && at.transfer == transfer::BLOCKED;
+        c.open = (opener && (k == opened || c.at_port() && rng.chance(50))) as u8;
+        tool.carrier[k] = c;
+        tool.count += 1;
+    }
+    assert!(sound(&tool), "a prepared state is sound");
+    tool
+}
+
+/// A state with so many records and an input of this row; accepted, or refused, if some draws can have it so.
+pub fn prepared(carriers: usize, family: usize, row: u32, accepted: bool, rng: &mut Rng) -> (Tool, Input) {
+    for _ in 0..40 {
+        let tool = tool(carriers, family, rng);
+        let input = input(&tool, row, family, accepted, rng);
+        if (answer(&tool, &input) == 0) == accepted {
+            return (tool, input);
+        }
+    }
+    let tool = tool(carriers, family, rng);
+    (tool, input(&tool, row, family, accepted, rng))
+}
+
+/// The state with one byte changed so that it isn't sound.
+pub fn damaged(tool: &Tool, rng: &mut Rng) -> Tool {
+    loop {
+        let mut bytes = tool.bytes().to_vec();
+        let at = rng.below(bytes.len() as u32) as usize;
+        bytes[at] ^= 1 << rng.below(8);
+        let damaged = Tool::from_bytes(&bytes).expect("as long as it was");
+        if !sound(&damaged) {
+            return damaged;
+        }
+    }
+}
+
+/// An input of this row that looks at what the tool holds.
+fn input(tool: &Tool, row: u32, family: usize, accepted: bool, rng: &mut Rng) -> Input {
+    let mut input = Input::default();
+    for _ in 0..30 {
+        let names = if rng.chance(70) { tool.count as u32 + 1 } else { POOL };
+        let k = rng.below(names);
+        input = Input {
+            number: row,
+            port: if matches!(row, 2 | 5 | 6) { rng.below(5) } else { 1 + rng.below(4) },
+            value: if row == 18 { 1 + rng.below(16) } else { rng.below(2) },
+            name: name(family, k),
+            // A row that doesn't name the codes ignores them, but they may cost something.
+            codes: if row == 20 || rng.chance(50) { vec![rng.below(6) as u8; 25] } else { Vec::new() },
+        };
+        if (answer(tool, &input) == 0) == accepted {
+            break;
+        }
+    }
+    input
+}
+
+fn answer(tool: &Tool, i: &Input) -> u32 {
+    let (mut next, mut reports) = (*tool, Reports::NONE);
+    step(&mut next, i.number, i.port, i.value, &i.name, &i.codes, &mut reports)
+}
+
+#[cfg(test)]
+mod tests {
+    use super::*;
+
+    #[test]
+    fn names_of_a_family_differ() {
+        for family in 0..FAMILIES.len() {
+            let all: std::collections::BTreeSet<_> = (0..POOL).map(|k| name(family, k)).collect();
+            assert_eq!(all.len(), POOL as usize, "{}", FAMILIES[family]);
+            assert!(all.iter().flatten().all(|byte| (0x21..=0x7E).contains(byte)));
+        }
+    }
+
+    #[test]
+    fn states_have_the_records_asked_for() {
+        let mut rng = Rng::new(1);
+        for carriers in 0..=MAX_CARRIERS {
+            for family in 0..FAMILIES.len() {
+                assert_eq!(tool(carriers, family, &mut rng).count as usize, carriers);
+            }
+        }
+    }
+
+    #[test]
+    fn every_row_is_both_accepted_and_refused() {
+        let mut rng = Rng::new(2);
+        for row in 1..=26 {
+            for wanted in [true, false] {
+                let found = (0..10).any(|_| {
+                    let (tool, input) = prepared(30, 1, row, wanted, &mut rng);
+                    (answer(&tool, &input) == 0) == wanted
+                });
+                assert!(found, "row {row}, accepted {wanted}");
+            }
+        }
+    }
+}
