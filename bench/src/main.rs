@@ -20,19 +20,21 @@ fn number(word: &str, from: usize, to: usize) -> Option<usize> {
     word.parse().ok().filter(|n| (from..=to).contains(n))
 }
 
+/// Nothing where the words can't be read.
 fn run(words: &[&str]) -> Option<Result<(), String>> {
     let count = |word: &str| number(word, 1, usize::MAX);
     let carriers = |word: &str| number(word, 0, plainly::MAX_CARRIERS);
     match words {
-        ["time"] => Some(time::time(1_000_000, 7)),
-        ["time", n] => Some(time::time(count(n)?, 7)),
-        ["time", n, rounds] => Some(time::time(count(n)?, count(rounds)?)),
-        ["play", n, c] => Some(Ok(play::mix(count(n)?, carriers(c)?))),
-        ["play", n, c, input] => Some(Ok(play::one_row(play::row_of(input)?, count(n)?, carriers(c)?))),
-        ["unsound", n, c] => Some(Ok(play::unsound(count(n)?, carriers(c)?))),
-        ["search", n, c] => Some(Ok(play::search(count(n)?, carriers(c)?))),
-        _ => None,
+        ["time"] => return Some(time::time(1_000_000, 7)),
+        ["time", n] => return Some(time::time(count(n)?, 7)),
+        ["time", n, rounds] => return Some(time::time(count(n)?, count(rounds)?)),
+        ["play", n, c] => play::mix(count(n)?, carriers(c)?),
+        ["play", n, c, input] => play::one_row(play::row_of(input)?, count(n)?, carriers(c)?),
+        ["search", n, c] => play::search(count(n)?, carriers(c)?),
+        ["unsound", n, c] => play::unsound(count(n)?, carriers(c)?),
+        _ => return None,
     }
+    Some(Ok(()))
 }
 
 fn main() -> ExitCode {

@@ -175,9 +175,9 @@ mod tests {
 
     #[test]
     fn names_of_a_family_differ() {
-        for family in 0..FAMILIES.len() {
+        for (family, kind) in FAMILIES.iter().enumerate() {
             let all: std::collections::BTreeSet<_> = (0..POOL).map(|k| name(family, k)).collect();
-            assert_eq!(all.len(), POOL as usize, "{}", FAMILIES[family]);
+            assert_eq!(all.len(), POOL as usize, "{kind}");
             assert!(all.iter().flatten().all(|byte| (0x21..=0x7E).contains(byte)));
         }
     }
