@@ -31,8 +31,9 @@ check_pairs() {
 }
 
 check_labels() {
-    grep -oE '^[|] N[0-9]+ [|]' "$narrowings" | tr -dc '0-9\n' | awk '$1 != NR { print "N" $1 " stands where N" NR " belongs" }' |
-        while read -r line; do say "$narrowings: $line"; done
+    for label in $(grep -oE '^[|] N[0-9]+ [|]' "$narrowings" | tr -d '| ' | sort | uniq -d); do
+        say "$narrowings has $label twice"
+    done
     for file in docs/*.md "$folder"/*.script; do
         for label in $(labels "$file"); do
             grep -q "^| $label |" "$narrowings" || say "$file cites $label, which $narrowings doesn't have"
