@@ -1,0 +1,46 @@
+# The C interface. EMULATOR runs x86-64 programs where the machine isn't one; empty where it is.
+CFLAGS_C = -O1 -g -Wall -Wextra -Wpedantic -Wconversion -Wshadow -Wundef -Wcast-qual -Werror -Iinclude
+C_FILES = include/hawsermole.h $(wildcard tests/c/*.h) $(ARCHIVE)
+# Under an emulator AddressSanitizer needs a new one (qemu 8 or later), so it has to be asked for there.
+SANITIZERS ?= $(if $(EMULATOR),undefined,address,undefined)
+SANITIZE = -fsanitize=$(SANITIZERS) -fno-sanitize-recover=all -fno-omit-frame-pointer
+
+c: cross target/c/header-c99 target/c/header-c11 target/c/header-c++17 target/c/twelve target/c/firmware target/c/callers target/c/stack
+	CC="$(CC)" tests/c/archive.sh $(ARCHIVE)
+	$(EMULATOR) target/c/header-c99
+	$(EMULATOR) target/c/header-c11
+	$(EMULATOR) target/c/header-c++17
+	$(EMULATOR) target/c/twelve
+	$(EMULATOR) target/c/firmware > target/c/firmware.txt
+	diff tests/c/firmware.txt target/c/firmware.txt
+	$(EMULATOR) target/c/callers $(CALLERS)
+	$(EMULATOR) target/c/stack
+
+sanitize: cross target/c/firmware-sanitized target/c/callers-sanitized
+	$(EMULATOR) target/c/firmware-sanitized > target/c/firmware-sanitized.txt
+	diff tests/c/firmware.txt target/c/firmware-sanitized.txt
+	$(EMULATOR) target/c/callers-sanitized $(CALLERS)
+
+target/c/header-c99 target/c/header-c11: target/c/header-%: tests/c/header.c $(C_FILES)
+	mkdir -p target/c
+	$(CC) -std=$* $(CFLAGS_C) $< $(ARCHIVE) -o $@
+
+target/c/header-c++17: tests/c/header.c $(C_FILES)
+	mkdir -p target/c
+	$(CXX) -std=c++17 $(CFLAGS_C) -x c++ $< -x none $(ARCHIVE) -o $@
+
+target/c/twelve target/c/callers target/c/stack: target/c/%: tests/c/%.c $(C_FILES)
+	mkdir -p target/c
+	$(CC) -std=c99 $(CFLAGS_C) $< $(ARCHIVE) -Wl,-z,now -o $@
+
+target/c/firmware: examples/firmware.c $(C_FILES)
+	mkdir -p target/c
+	$(CC) -std=c99 $(CFLAGS_C) $< $(ARCHIVE) -o $@
+
+target/c/firmware-sanitized: examples/firmware.c $(C_FILES)
+	mkdir -p target/c
+	$(CC) -std=c99 $(CFLAGS_C) $(SANITIZE) $< $(ARCHIVE) -o $@
+
+target/c/callers-sanitized: tests/c/callers.c $(C_FILES)
+	mkdir -p target/c
+	$(CC) -std=c99 $(CFLAGS_C) $(SANITIZE) $< $(ARCHIVE) -o $@
