@@ -5,7 +5,6 @@
 include tools/host.mk
 
 ARCHIVE = target/staticlib/libhawsermole.a
-CARGO = cargo
 N = 100000
 CALLERS = 50000
 
@@ -36,8 +35,9 @@ endif
 run: target/hawsermole
 	target/hawsermole --explain examples/twelve_rows.script
 
-independent: cross
-	cd independent && $(CARGO) test --offline --quiet --test hand_run --test readings --test soundness
+# Links no archive, so that it runs as it is on every machine.
+independent:
+	cd independent && cargo test --offline --quiet --test hand_run --test readings --test soundness
 
 rust: library cross
 	cd rust && $(CARGO) test --offline --quiet
@@ -56,7 +56,7 @@ compare: library cross
 bench: library cross
 	cd bench && $(CARGO) test --offline --quiet
 	cd bench && $(CARGO) build --offline --quiet --release
-	bench/instructions.sh
+	bench/instructions.sh bench/target/$(RELEASE)/bench
 	cd bench && $(CARGO) run --offline --quiet --release -- time
 
 include tests/c/c.mk

@@ -4,3 +4,4 @@ pub mod Bytes
 pub mod Laid
 pub mod Moved
 pub mod Reported
+pub mod Only

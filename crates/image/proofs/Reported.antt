@@ -5,14 +5,14 @@ use native.Mathlib.Omega.{arith}
 use mathlib.Core.Path.{_≡_, refl, ap, sym, _∙_}
 use mathlib.Core.Logic.{_≢_}
 use mathlib.Core.List.{List, [], _∷_}
-use lib.ListN.{length, set, replicate, length-append}
+use lib.ListN.{length, getD, set, replicate, length-append}
 use lib.Seq.{sets, length-sets, getD-set-same}
 use Rattle.rules.specs.declared.report.Report.{Report}
 use Rattle.rules.specs.declared.report.Reports.{Reports}
 use Rattle.lists.specs.Lists.{fill}
 use Rattle.rules.specs.Reports.{listed, noReports}
 use Rattle.image.specs.Image.{table, byteAt, reportFrom, reportBytes, reportStart, reportsFrom}
-use Rattle.image.proofs.Table.{table-same, table-set}
+use Rattle.image.proofs.Table.{table-set, getD-table}
 use Rattle.image.proofs.Written.{before-stays, after-stays, stands-there}
 use Rattle.image.proofs.Bytes.{report-back}
 use Rattle.image.proofs.Laid.{report-same, split}
@@ -20,6 +20,10 @@ use Rattle.image.proofs.Laid.{report-same, split}
 pub reported-is : (m : List ℕ) → reportsFrom m .count ≡ byteAt m 0
 unfolding reportsFrom
 reported-is m = refl
+
+pub item-is : (m : List ℕ) (k : ℕ) (d : Report) → k < 7 → getD (reportsFrom m .items) k d ≡ reportFrom m (reportStart k)
+unfolding reportsFrom
+item-is m k d b = getD-table 7 (λ k. reportFrom m (reportStart k)) k d b
 
 length-report : (r : Report) → length (r .name .bytes) ≡ 16 → length (reportBytes r) ≡ 20
 unfolding reportBytes
