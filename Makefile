@@ -22,6 +22,9 @@ library:
 
 $(ARCHIVE): library ;
 
+target/native/libhawsermole.a: library
+	tools/native.sh target/native
+
 target/hawsermole: library cross
 	cd cli && $(CARGO) build --offline --quiet --release --locked
 ifeq ($(EMULATOR),)
@@ -53,11 +56,11 @@ compare: library cross
 	cd compare && $(CARGO) test --offline --quiet
 	cd compare && $(CARGO) run --offline --quiet --release -- $(N)
 
-bench: library cross
+bench: $(NATIVE)/libhawsermole.a cross
 	cd bench && $(CARGO) test --offline --quiet
 	cd bench && $(CARGO) build --offline --quiet --release
 	bench/instructions.sh bench/target/$(RELEASE)/bench
-	cd bench && $(CARGO) run --offline --quiet --release -- time
+	cd bench && HAWSERMOLE_LIB_DIR=$(abspath $(NATIVE)) cargo run --offline --quiet --release -- time
 
 include tests/c/c.mk
 

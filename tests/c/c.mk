@@ -1,9 +1,8 @@
 # The C interface. EMULATOR runs x86-64 programs where the machine isn't one; empty where it is.
 CFLAGS_C = -O1 -g -Wall -Wextra -Wpedantic -Wconversion -Wshadow -Wundef -Wcast-qual -Werror -Iinclude
 C_FILES = include/hawsermole.h $(wildcard tests/c/*.h) $(ARCHIVE)
-# Under an emulator AddressSanitizer needs a new one (qemu 8 or later), so it has to be asked for there.
-SANITIZERS ?= $(if $(EMULATOR),undefined,address,undefined)
-SANITIZE = -fsanitize=$(SANITIZERS) -fno-sanitize-recover=all -fno-omit-frame-pointer
+SANITIZE = -fsanitize=address,undefined -fno-sanitize-recover=all -fno-omit-frame-pointer
+SANITIZED = gcc -std=c99 $(CFLAGS_C) $(SANITIZE)
 
 c: cross target/c/header-c99 target/c/header-c11 target/c/header-c++17 target/c/twelve target/c/firmware target/c/callers target/c/stack
 	CC="$(CC)" tests/c/archive.sh $(ARCHIVE)
@@ -16,10 +15,10 @@ c: cross target/c/header-c99 target/c/header-c11 target/c/header-c++17 target/c/
 	$(EMULATOR) target/c/callers $(CALLERS)
 	$(EMULATOR) target/c/stack
 
-sanitize: cross target/c/firmware-sanitized target/c/callers-sanitized
-	$(EMULATOR) target/c/firmware-sanitized > target/c/firmware-sanitized.txt
+sanitize: target/c/firmware-sanitized target/c/callers-sanitized
+	target/c/firmware-sanitized > target/c/firmware-sanitized.txt
 	diff tests/c/firmware.txt target/c/firmware-sanitized.txt
-	$(EMULATOR) target/c/callers-sanitized $(CALLERS)
+	target/c/callers-sanitized $(CALLERS)
 
 target/c/header-c99 target/c/header-c11: target/c/header-%: tests/c/header.c $(C_FILES)
 	mkdir -p target/c
@@ -37,10 +36,10 @@ target/c/firmware: examples/firmware.c $(C_FILES)
 	mkdir -p target/c
 	$(CC) -std=c99 $(CFLAGS_C) $< $(ARCHIVE) -o $@
 
-target/c/firmware-sanitized: examples/firmware.c $(C_FILES)
+target/c/firmware-sanitized: examples/firmware.c $(C_FILES) $(NATIVE)/libhawsermole.a
 	mkdir -p target/c
-	$(CC) -std=c99 $(CFLAGS_C) $(SANITIZE) $< $(ARCHIVE) -o $@
+	$(SANITIZED) $< $(NATIVE)/libhawsermole.a -o $@
 
-target/c/callers-sanitized: tests/c/callers.c $(C_FILES)
+target/c/callers-sanitized: tests/c/callers.c $(C_FILES) $(NATIVE)/libhawsermole.a
 	mkdir -p target/c
-	$(CC) -std=c99 $(CFLAGS_C) $(SANITIZE) $< $(ARCHIVE) -o $@
+	$(SANITIZED) $< $(NATIVE)/libhawsermole.a -o $@
