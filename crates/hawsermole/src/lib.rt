@@ -7,7 +7,6 @@ ghost use Rattle.rules.specs.Sound.{soundTool};
 ghost use Rattle.rules.specs.Seen.{inputOf};
 ghost use Rattle.rules.specs.Outcome.{outcome};
 ghost use Rattle.image.specs.Image.{toolFrom, reportsFrom};
-use image::whole::tool_from;
 use machine::setup::setup;
 use machine::step::step;
 use soundness::whole::sound;
@@ -39,7 +38,7 @@ pub extern "C" fn hm_setup(tool: &mut [u8; 1891], ports: u32, places: u32) -> u3
 pub extern "C" fn hm_sound(tool: &[u8; 1891]) -> u32
     ensures { λ r. ⌜ r ≡ cond (soundTool (toolFrom (now (tool .entry)))) 1 0 ⌝ }
 {
-    if sound(tool_from(tool)) { 1 } else { 0 }
+    if sound(tool) { 1 } else { 0 }
 }
 
 #[no_mangle]

@@ -1,5 +1,4 @@
 // A tool as the bytes that its caller lends.
 pub mod read;
 pub mod report;
-pub mod whole;
 pub mod write;

@@ -11,7 +11,6 @@ use crate::report::told;
 use image::read::port_at;
 use image::read::record_at;
 use image::report::no_reports;
-use image::whole::tool_from;
 use rows::numbered::answer_of;
 use rows::numbered::effect_of;
 use soundness::whole::sound;
@@ -60,7 +59,7 @@ pub fn step(
     ensures { λ r. ⌜ reportsFrom (now (o .exit)) ≡ outcome (toolFrom (now (m .entry))) (inputOf number port value (now (name .entry)) (now (codes .entry))) .reports ⌝ }
     ensures { λ r. ⌜ r ≡ outcome (toolFrom (now (m .entry))) (inputOf number port value (now (name .entry)) (now (codes .entry))) .answer ⌝ }
 {
-    if sound(tool_from(m)) {
+    if sound(m) {
         step_sound(m, o, number, port, value, name, codes)
     } else {
         no_reports(o);

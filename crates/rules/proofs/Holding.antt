@@ -54,7 +54,7 @@ port-of : (q : Port) {a b c d e f : ℕ} {n : Name} → q .transfer ≡ a → q 
     → q ≡ record { transfer = a; access = b; reserved = c; tie = n; movement = d; pod = e; tag = f }
 port-of q a b c n d e f = rw (sym a, sym b, sym c, sym n, sym d, sym e, sym f)
 
-zero-port : (q : Port) → zeroPort q ≡ true → q ≡ noPort
+pub zero-port : (q : Port) → zeroPort q ≡ true → q ≡ noPort
 unfolding zeroPort
 zero-port q e =
     port-of q
@@ -68,7 +68,7 @@ carrier-of : (x : Carrier) {b c d e f g i j k : ℕ} {n : Name} {m : List ℕ} �
     → x ≡ record { name = n; place = b; spot = c; port = d; opened = e; cancelled = f; cameout = g; map = m; id = i; slot = j; accessing = k }
 carrier-of x n b c d e f g m i j k = rw (sym n, sym b, sym c, sym d, sym e, sym f, sym g, sym m, sym i, sym j, sym k)
 
-zero-carrier : (x : Carrier) → zeroCarrier x ≡ true → x ≡ noCarrier
+pub zero-carrier : (x : Carrier) → zeroCarrier x ≡ true → x ≡ noCarrier
 unfolding zeroCarrier
 zero-carrier x e =
     carrier-of x (name-is (x .name) noName (search (and-l, and-r) depth 13))

@@ -1,1 +1,10 @@
-pub mod Checked
+pub mod Bounds
+pub mod Clauses
+pub mod Gathered
+pub mod Judged
+pub mod Latest
+pub mod Marks
+pub mod Seated
+pub mod Turns
+pub mod Unused
+pub mod Verdict

@@ -1,4 +1,6 @@
-// Whether a tool holds a sound state.
-pub mod audit;
-pub mod parts;
+// Whether the bytes that a caller lends hold a sound tool.
+pub mod bytes;
+pub mod lanes;
+pub mod names;
+pub mod seats;
 pub mod whole;

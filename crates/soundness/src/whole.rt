@@ -1,93 +1,66 @@
 // The whole tool.
 ghost use mathlib.Core.Path.{_≡_};
-ghost use Prim.Native.Nat.{_≤_};
-ghost use lib.ListN.{take, drop};
+ghost use Prim.Native.Nat.{_≤_, _<_};
 ghost use Rattle.lists.specs.Lists.{every};
-ghost use Rattle.rules.specs.State.{stateOf};
-ghost use Rattle.rules.specs.Sound.{zeroPort, zeroCarrier, sound, soundTool};
-ghost use Rattle.rules.specs.Held.{Held};
-ghost use Rattle.soundness.specs.Audit.{portOk};
-use crate::audit::audits;
-use crate::parts::port_in;
-use crate::parts::port_ok;
-use crate::parts::tie_held;
-use crate::parts::zero_carrier;
-use crate::parts::zero_port;
+ghost use Rattle.rules.specs.Sound.{soundTool};
+ghost use Rattle.image.specs.Image.{table, toolFrom};
+ghost use Rattle.soundness.specs.Passes.{portOn, portFits};
+use crate::bytes::zeros;
+use crate::lanes::fields;
+use crate::lanes::named;
+use crate::names::differ;
+use crate::seats::seats;
+use image::read::count;
+use image::read::places;
+use image::read::used;
 use records::choose::wide;
-use rules::tool::Tool;
 
-// Nothing after the ports.
-fn ports_end(t: Tool) -> bool
-    requires { ⌜ t .used ≤ 4 ⌝ }
-    ensures { λ r. ⌜ r ≡ every zeroPort (drop (t .used) (t .ports)) ⌝ }
+// The port at o, but for its tie.
+fn port(m: &[u8; 1891], k: usize) -> bool
+    requires { ⌜ k < 4 ⌝ }
+    ensures { λ r. ⌜ r ≡ portFits (portOn (now (m .entry)) k) ⌝ }
 {
-    let n = wide(t.used);
+    let o = 3 + 22 * k;
+    let transfer = m[o];
+    let movement = m[o + 19];
+    let pod = m[o + 20];
+    let fits = (transfer <= 3)
+        & (m[o + 1] <= 1)
+        & (m[o + 2] <= 1)
+        & (movement <= 2)
+        & (pod <= 1)
+        & (m[o + 21] <= 2);
+    fits
+        & (((movement == 0) | (transfer == 3))
+            & (!((transfer <= 1) | (movement == 1)) | (pod != 1)))
+}
+
+// The first n ports.
+fn ports(m: &[u8; 1891], n: usize) -> bool
+    requires { ⌜ n ≤ 4 ⌝ }
+    ensures { λ r. ⌜ r ≡ every portFits (table n (portOn (now (m .entry)))) ⌝ }
+{
     let mut ok = true;
-    let mut k = 4;
-    while n < k {
-        k -= 1;
-        let q = t.ports[k];
-        ok = zero_port(q) & ok;
+    let mut k = 0;
+    while k < n {
+        ok = port(m, k) & ok;
+        k += 1;
     }
     ok
 }
 
-// Nothing after the records.
-fn carriers_end(t: Tool) -> bool
-    requires { ⌜ t .count ≤ 36 ⌝ }
-    ensures { λ r. ⌜ r ≡ every zeroCarrier (drop (t .count) (t .carriers)) ⌝ }
+// Whether the bytes hold a sound tool.
+pub fn sound(m: &[u8; 1891]) -> bool
+    ensures { λ r. ⌜ r ≡ soundTool (toolFrom (now (m .entry))) ⌝ }
 {
-    let n = wide(t.count);
-    let mut ok = true;
-    let mut k = 36;
-    while n < k {
-        k -= 1;
-        let c = t.carriers[k];
-        ok = zero_carrier(c) & ok;
-    }
-    ok
-}
-
-fn ports_ok(t: Tool) -> bool
-    requires { ⌜ t .used ≤ 4 ⌝ }
-    ensures { λ r. ⌜ r ≡ every portOk (take (t .used) (t .ports)) ⌝ }
-{
-    let mut ok = true;
-    let mut k = wide(t.used);
-    while 0 < k {
-        k -= 1;
-        let q = t.ports[k];
-        ok = port_ok(q) & ok;
-    }
-    ok
-}
-
-fn lists_sound(t: Tool) -> bool
-    requires { ⌜ Held t ⌝ }
-    ensures { λ r. ⌜ r ≡ sound (stateOf t) ⌝ }
-{
-    let a = audits(t);
-    let ports = t.ports;
-    let low = tie_held(port_in(ports, 1), a.one) & tie_held(port_in(ports, 2), a.two);
-    let high = tie_held(port_in(ports, 3), a.three) & tie_held(port_in(ports, 4), a.four);
-    let sizes = ((1 <= t.used) & (t.used <= 4)) & (t.places <= 16);
-    sizes & ports_ok(t) & (low & high) & a.ok & a.apart & (a.expected <= 16)
-}
-
-// Whether a tool is sound, whatever its bytes.
-pub fn sound(t: Tool) -> bool
-    ensures { λ r. ⌜ r ≡ soundTool t ⌝ }
-{
-    if t.used <= 4 {
-        if t.count <= 36 {
-            if ports_end(t) & carriers_end(t) {
-                lists_sound(t)
-            } else {
-                false
-            }
-        } else {
-            false
-        }
+    let used = used(m);
+    let places = places(m);
+    let count = count(m);
+    if ((1 <= used) & (used <= 4)) & (places <= 16) & (count <= 36) {
+        let p = wide(used);
+        let n = wide(count);
+        let unused = zeros(m, 3 + 22 * p, 88 - 22 * p) & zeros(m, 91 + 50 * n, 1800 - 50 * n);
+        unused & ports(m, p) & fields(m, n) & named(m, n) & seats(m, used, places, n) & differ(m, n)
     } else {
         false
     }

@@ -23,26 +23,23 @@ when-not : (t : Tool) (i : Input) → soundTool t ≡ false → refused t 1 ≡ 
 unfolding outcome
 when-not t i h = rw h
 
-tested : (c : tie.After-sound) → c .sound .result ≡ soundTool (tool (c .before .before .before .before .before))
-tested c = c .sound .ensures ∙ ap soundTool (c .before .tool-from .ensures)
-
 step-sound-requires : tie.Need-step-sound-requires
-step-sound-requires c κs = sym (tested (c .before .before .before)) ∙ c .before .before .if1 .taken
+step-sound-requires c κs = sym (c .before .before .before .sound .ensures) ∙ c .before .before .if1 .taken
 
 returns : tie.Need-returns
 returns c =
     let u = c .before .before .before .before in
-    let s = u .before .before .before .before .before in
-    let o = when-sound (tool s) (input s) (sym (tested u) ∙ c .before .before .before .if1 .taken) in
+    let s = u .before .before .before .before in
+    let o = when-sound (tool s) (input s) (sym (u .sound .ensures) ∙ c .before .before .before .if1 .taken) in
     let e = c .step-sound .ensures in
     (e .0 ∙ ap (λ x. x .tool) o, (e .1 .0 ∙ ap (λ x. x .reports) o, e .1 .1 ∙ ap (λ x. x .answer) o))
 
 returns-2 : tie.Need-returns-2
 returns-2 c =
     let u = c .before .before .before in
-    let s = u .before .before .before .before .before in
-    let o = when-not (tool s) (input s) (sym (tested u) ∙ c .before .before .if1 .left) in
+    let s = u .before .before .before .before in
+    let o = when-not (tool s) (input s) (sym (u .sound .ensures) ∙ c .before .before .if1 .left) in
     (ap (λ x. x .tool) o, (c .no-reports .ensures ∙ ap (λ x. x .reports) o, ap (λ x. x .answer) o))
 
 pub step-spec : {M : Type 1} → statement M
-step-spec = tie.close (tie.spec (λ c κs. tt) (λ c κs. tt) step-sound-requires (λ c κs. tt) returns returns-2)
+step-spec = tie.close (tie.spec (λ c κs. tt) step-sound-requires (λ c κs. tt) returns returns-2)

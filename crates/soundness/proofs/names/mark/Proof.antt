@@ -1,0 +1,12 @@
+use borrow.Author.Needs.{needs}
+use native.Mathlib.Omega.{arith}
+use Rattle.soundness.specs.Passes.{mark}
+use Rattle.soundness.proofs.names.mark.Statement.{statement}
+use Rattle.soundness.proofs.names.mark.Tie as tie
+
+pub mark-spec : {M : Type 1} → statement M
+unfolding mark
+mark-spec =
+    tie.close
+    (tie.spec (λ c κs. search needs) (λ c. search needs) (λ c. search needs) (λ c κs. search needs) (λ c. search needs) (λ c. search needs) (λ c. search needs) (λ c κs. search needs) (λ c. search needs) (λ c. search needs) (λ c κs. search needs) (λ c. search needs) (λ c. search needs) (λ c. search needs)
+    (λ c. (rw (c .before .before .before .word .ensures .0, c .before .before .word2 .ensures .0, c .before .word3 .ensures .0, c .word4 .ensures .0), omega arith)))
