@@ -1,0 +1,144 @@
+//! Finds the transitions: every input to every tool that runs from a set-up reach, and what the reports say.
+//!
+//! The search is complete within its bounds: all runs, of any length, of the tools in [`SETUPS`] with inputs made of the ports of
+//! the tool (and 0), the names in [`NAMES`] (and none), every buffer place, both values of every choice, and one slot map. A tool
+//! that was met before isn't followed again, so the search ends by itself.
+use hawsermole::{Argument, Input, Model, Parts, Row, Tool, ROWS, TOOL_BYTES};
+use std::collections::{BTreeMap, BTreeSet, HashSet, VecDeque};
+
+/// Ports and buffer places. One port and two names meet all that needs two carriers: a name that isn't the one announced. More
+/// ports, places and names add tools but no transition; `diagrams --wide` sees to that.
+pub const SETUPS: [(u32, u32); 2] = [(1, 0), (1, 1)];
+pub const NAMES: [&[u8]; 2] = [b"A", b"B"];
+
+const NO_NAME: &[u8] = b"";
+const MAP: &[u8] = &[3; hawsermole::SLOTS];
+
+/// A transition of a model: from old to new, by an input.
+#[derive(Clone, Copy, Debug, PartialEq, Eq, PartialOrd, Ord)]
+pub struct Edge {
+    pub model: Model,
+    pub old: u8,
+    pub new: u8,
+}
+
+/// What causes a transition: a row, with its value where the row's value is a choice of two.
+#[derive(Clone, Copy, Debug, PartialEq, Eq, PartialOrd, Ord)]
+pub struct Cause {
+    pub number: u32,
+    pub choice: Option<u32>,
+}
+
+/// The kinds of tool in which a transition was met.
+#[derive(Clone, Copy, Debug, Default, PartialEq, Eq)]
+pub struct Kinds {
+    pub fixed: bool,
+    pub internal: bool,
+}
+
+/// What the search found.
+#[derive(Debug, Default)]
+pub struct Found {
+    /// The state that set-up gives to every port, in models 1 to 4.
+    pub first: BTreeSet<(Model, u8)>,
+    pub edges: BTreeMap<Edge, BTreeMap<Cause, Kinds>>,
+    pub tools: usize,
+}
+
+/// Searches all of [`SETUPS`].
+pub fn explore() -> Found {
+    let mut found = Found::default();
+    for (ports, places) in SETUPS {
+        explore_from(ports, places, &NAMES, &mut found);
+    }
+    found
+}
+
+/// Searches the runs of one set-up, breadth first.
+pub fn explore_from(ports: u32, places: u32, names: &[&[u8]], found: &mut Found) {
+    let inputs = inputs(ports, places, names);
+    let start = Tool::setup(ports, places).expect("the bounds are a tool's");
+    let mut met: HashSet<[u8; TOOL_BYTES]> = HashSet::from([*start.as_bytes()]);
+    found.first.extend(start.ports().flat_map(states_at));
+    let mut waiting = VecDeque::from([start]);
+    while let Some(tool) = waiting.pop_front() {
+        for input in &inputs {
+            let mut next = tool.clone();
+            let Ok(reports) = next.step(input) else { continue };
+            for report in reports {
+                let edge = Edge { model: report.model, old: report.old, new: report.new };
+                found.note(edge, cause(input), places);
+            }
+            if met.insert(*next.as_bytes()) {
+                waiting.push_back(next);
+            }
+        }
+    }
+    found.tools += met.len();
+}
+
+fn states_at(port: hawsermole::Port) -> [(Model, u8); 4] {
+    [
+        (Model::Transfer, port.transfer),
+        (Model::Access, port.access),
+        (Model::Reservation, port.reserved),
+        (Model::Tie, u8::from(!port.tie.is_none())),
+    ]
+}
+
+impl Found {
+    fn note(&mut self, edge: Edge, cause: Cause, places: u32) {
+        let kinds = self.edges.entry(edge).or_default().entry(cause).or_default();
+        match places {
+            0 => kinds.fixed = true,
+            _ => kinds.internal = true,
+        }
+    }
+}
+
+fn cause(input: &Input) -> Cause {
+    let choice = choice(input.row()).map(|_| input.parts().value);
+    Cause { number: input.number(), choice }
+}
+
+/// The argument that is a choice of two, in the rows that have one.
+pub fn choice(row: &Row) -> Option<Argument> {
+    let choices = [Argument::Access, Argument::Service, Argument::End];
+    row.arguments.iter().copied().find(|argument| choices.contains(argument))
+}
+
+/// Every input within the bounds.
+fn inputs<'a>(ports: u32, places: u32, names: &[&'a [u8]]) -> Vec<Input<'a>> {
+    let of_row = |row: &Row| {
+        let mut all = vec![Parts { number: row.number, ..Parts::default() }];
+        for &argument in row.arguments {
+            all = all.iter().flat_map(|parts| with(parts, argument, ports, places, names)).collect();
+        }
+        all
+    };
+    let parts = ROWS.iter().flat_map(of_row);
+    parts.map(|parts| Input::from_parts(&parts).expect("the number is a row's")).collect()
+}
+
+/// The input with each value that one of its arguments may have.
+fn with<'a>(
+    parts: &Parts<'a>,
+    argument: Argument,
+    ports: u32,
+    places: u32,
+    names: &[&'a [u8]],
+) -> Vec<Parts<'a>> {
+    let port = |port| Parts { port, ..*parts };
+    let name = |name| Parts { name, ..*parts };
+    let value = |value| Parts { value, ..*parts };
+    let named = names.iter().copied();
+    match argument {
+        Argument::Port => (1..=ports).map(port).collect(),
+        Argument::PortOrNone => (0..=ports).map(port).collect(),
+        Argument::Name => named.map(name).collect(),
+        Argument::NameOrNone => named.chain([NO_NAME]).map(name).collect(),
+        Argument::Access | Argument::Service | Argument::End => (0..=1).map(value).collect(),
+        Argument::Place => (1..=places).map(value).collect(),
+        Argument::Codes => vec![Parts { codes: MAP, ..*parts }],
+    }
+}

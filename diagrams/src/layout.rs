@@ -1,0 +1,174 @@
+//! Where each state stands and which way each transition goes: the only part of a picture that is made by hand.
+//!
+//! Which states and transitions there are, and the words on them, come from the search. [`plan`](crate::plan) fails where the two
+//! don't meet, in either direction.
+use hawsermole::Model;
+
+/// An end of a transition. `NoRecord` and `SetUp` are drawn as small dots, one for each transition.
+#[derive(Clone, Copy, Debug, PartialEq, Eq, PartialOrd, Ord)]
+pub enum Node {
+    State(u8),
+    /// The carrier has no record: it is made, or it goes.
+    NoRecord,
+    /// The port as set-up gives it.
+    SetUp,
+}
+
+pub type Point = (i32, i32);
+
+/// Where a label's lines begin, end or have their middle.
+#[derive(Clone, Copy, Debug, PartialEq, Eq)]
+pub enum Side {
+    Start,
+    Middle,
+    End,
+}
+
+/// The way of a transition from border to border, and its label: a point at half the label's height.
+#[derive(Clone, Copy, Debug)]
+pub struct Route {
+    pub from: Node,
+    pub to: Node,
+    pub way: &'static [Point],
+    pub label: Point,
+    pub side: Side,
+}
+
+#[derive(Clone, Copy, Debug)]
+pub struct Layout {
+    pub file: &'static str,
+    pub model: Model,
+    pub height: i32,
+    pub box_width: i32,
+    /// A state and the middle of its box.
+    pub states: &'static [(u8, Point)],
+    pub routes: &'static [Route],
+}
+
+/// Every picture is as wide as the text of an A4 page.
+pub const WIDTH: i32 = 680;
+pub const BOX_HEIGHT: i32 = 44;
+
+use Node::{NoRecord, SetUp, State};
+use Side::{End, Middle, Start};
+
+const fn route(from: Node, to: Node, way: &'static [Point], label: Point, side: Side) -> Route {
+    Route { from, to, way, label, side }
+}
+
+pub const LAYOUTS: [Layout; 7] = [TRANSFER, ACCESS, RESERVATION, TIE, ID, SLOT, ACCESSING];
+
+const TRANSFER: Layout = Layout {
+    file: "transfer.svg",
+    model: Model::Transfer,
+    height: 400,
+    box_width: 170,
+    states: &[(0, (250, 40)), (1, (250, 180)), (2, (520, 370)), (3, (520, 180))],
+    routes: &[
+        route(SetUp, State(1), &[(110, 180), (165, 180)], (100, 180), End),
+        route(State(1), State(0), &[(215, 158), (215, 62)], (207, 110), End),
+        route(State(0), State(1), &[(285, 62), (285, 158)], (293, 110), Start),
+        route(State(1), State(3), &[(335, 170), (435, 170)], (385, 156), Middle),
+        route(State(3), State(1), &[(435, 190), (335, 190)], (385, 222), Middle),
+        route(State(1), State(2), &[(250, 202), (250, 370), (435, 370)], (343, 358), Middle),
+        route(State(2), State(3), &[(485, 348), (485, 202)], (477, 290), End),
+        route(State(3), State(2), &[(555, 202), (555, 348)], (563, 275), Start),
+    ],
+};
+
+const ACCESS: Layout = Layout {
+    file: "access_mode.svg",
+    model: Model::Access,
+    height: 90,
+    box_width: 170,
+    states: &[(0, (190, 45)), (1, (560, 45))],
+    routes: &[
+        route(SetUp, State(0), &[(65, 45), (105, 45)], (55, 45), End),
+        route(State(0), State(1), &[(275, 35), (475, 35)], (375, 21), Middle),
+        route(State(1), State(0), &[(475, 55), (275, 55)], (375, 71), Middle),
+    ],
+};
+
+const RESERVATION: Layout = Layout {
+    file: "reservation.svg",
+    model: Model::Reservation,
+    height: 140,
+    box_width: 170,
+    states: &[(0, (200, 65)), (1, (565, 65))],
+    routes: &[
+        route(SetUp, State(0), &[(65, 65), (115, 65)], (55, 65), End),
+        route(State(0), State(1), &[(285, 55), (480, 55)], (382, 31), Middle),
+        route(State(1), State(0), &[(480, 75), (285, 75)], (382, 107), Middle),
+    ],
+};
+
+const TIE: Layout = Layout {
+    file: "tie.svg",
+    model: Model::Tie,
+    height: 190,
+    box_width: 170,
+    states: &[(0, (180, 115)), (1, (510, 115))],
+    routes: &[
+        route(SetUp, State(0), &[(65, 115), (95, 115)], (55, 115), End),
+        route(State(0), State(1), &[(265, 105), (425, 105)], (345, 57), Middle),
+        route(State(1), State(0), &[(425, 125), (265, 125)], (345, 157), Middle),
+        route(State(1), State(1), &[(540, 93), (540, 60), (580, 60), (580, 93)], (560, 48), Middle),
+    ],
+};
+
+const ID: Layout = Layout {
+    file: "id.svg",
+    model: Model::Id,
+    height: 510,
+    box_width: 170,
+    states: &[(1, (340, 112)), (2, (340, 240)), (3, (130, 385)), (4, (550, 385))],
+    routes: &[
+        route(NoRecord, State(1), &[(305, 25), (305, 90)], (295, 54), End),
+        route(State(1), NoRecord, &[(375, 90), (375, 25)], (385, 54), Start),
+        route(State(1), State(2), &[(340, 134), (340, 218)], (348, 176), Start),
+        route(State(1), State(3), &[(255, 112), (90, 112), (90, 363)], (98, 176), Start),
+        route(State(1), State(4), &[(425, 112), (590, 112), (590, 363)], (582, 176), End),
+        route(State(2), State(3), &[(255, 240), (170, 240), (170, 363)], (178, 302), Start),
+        route(State(2), State(4), &[(425, 240), (510, 240), (510, 363)], (502, 302), End),
+        route(NoRecord, State(2), &[(340, 330), (340, 262)], (340, 348), Middle),
+        route(NoRecord, State(3), &[(90, 470), (90, 407)], (90, 488), Middle),
+        route(State(3), NoRecord, &[(170, 407), (170, 470)], (178, 438), Start),
+        route(NoRecord, State(4), &[(590, 470), (590, 407)], (590, 488), Middle),
+        route(State(4), NoRecord, &[(510, 407), (510, 470)], (502, 438), End),
+    ],
+};
+
+const SLOT: Layout = Layout {
+    file: "slot_map.svg",
+    model: Model::Slot,
+    height: 500,
+    box_width: 196,
+    states: &[(1, (340, 127)), (2, (340, 255)), (3, (130, 400)), (4, (550, 400))],
+    routes: &[
+        route(NoRecord, State(1), &[(305, 25), (305, 105)], (295, 56), End),
+        route(State(1), NoRecord, &[(375, 105), (375, 25)], (385, 56), Start),
+        route(State(1), State(2), &[(340, 149), (340, 233)], (348, 191), Start),
+        route(State(2), State(3), &[(242, 255), (130, 255), (130, 378)], (138, 317), Start),
+        route(State(2), State(4), &[(438, 255), (550, 255), (550, 378)], (542, 317), End),
+        route(State(2), NoRecord, &[(340, 277), (340, 345)], (340, 365), Middle),
+        route(State(3), NoRecord, &[(130, 422), (130, 485)], (138, 453), Start),
+        route(State(4), NoRecord, &[(550, 422), (550, 485)], (542, 453), End),
+    ],
+};
+
+const ACCESSING: Layout = Layout {
+    file: "accessing.svg",
+    model: Model::Accessing,
+    height: 500,
+    box_width: 170,
+    states: &[(1, (340, 127)), (2, (340, 255)), (3, (130, 400)), (4, (550, 400))],
+    routes: &[
+        route(NoRecord, State(1), &[(305, 25), (305, 105)], (295, 56), End),
+        route(State(1), NoRecord, &[(375, 105), (375, 25)], (385, 56), Start),
+        route(State(1), State(2), &[(340, 149), (340, 233)], (348, 191), Start),
+        route(State(2), State(3), &[(255, 255), (130, 255), (130, 378)], (138, 317), Start),
+        route(State(2), State(4), &[(425, 255), (550, 255), (550, 378)], (542, 317), End),
+        route(State(3), NoRecord, &[(130, 422), (130, 485)], (138, 453), Start),
+        route(State(4), NoRecord, &[(550, 422), (550, 485)], (542, 453), End),
+    ],
+};

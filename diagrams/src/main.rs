@@ -1,0 +1,101 @@
+//! `diagrams DIR` writes the state models as pictures; `diagrams --check DIR` compares them with those that are there.
+#![forbid(unsafe_code)]
+
+use diagrams::explore::{explore, explore_from, Found, NAMES};
+use diagrams::pictures;
+use std::ffi::OsString;
+use std::fs;
+use std::path::Path;
+use std::process::ExitCode;
+
+const USAGE: &str = "\
+usage: diagrams DIR            writes the pictures of the state models to DIR
+       diagrams --check DIR    status 1 unless DIR holds just the pictures that would be written
+       diagrams --list         prints the transitions and what causes them
+       diagrams --wide         searches more ports, places and names; status 1 if that finds anything else
+";
+
+fn main() -> ExitCode {
+    let arguments: Vec<OsString> = std::env::args_os().skip(1).collect();
+    let done = match arguments.iter().map(|argument| argument.to_str()).collect::<Vec<_>>()[..] {
+        [Some("--help")] => say(USAGE),
+        [Some("--list")] => say(&list(&explore())),
+        [Some("--wide")] => wide(),
+        [Some("--check"), _] => check(Path::new(&arguments[1])),
+        [Some(option)] if option.starts_with('-') => Err(format!("unknown arguments\n{USAGE}")),
+        [_] => write(Path::new(&arguments[0])),
+        _ => Err(format!("unknown arguments\n{USAGE}")),
+    };
+    match done {
+        Ok(()) => ExitCode::SUCCESS,
+        Err(message) => {
+            eprintln!("diagrams: {}", message.trim_end());
+            ExitCode::FAILURE
+        }
+    }
+}
+
+fn say(text: &str) -> Result<(), String> {
+    print!("{text}");
+    Ok(())
+}
+
+fn write(folder: &Path) -> Result<(), String> {
+    for (file, text) in pictures(&explore())? {
+        let path = folder.join(file);
+        fs::write(&path, text).map_err(|error| format!("{}: {error}", path.display()))?;
+    }
+    Ok(())
+}
+
+/// A picture that is there and wouldn't be written is a difference too.
+fn check(folder: &Path) -> Result<(), String> {
+    let found = explore();
+    let pictures = pictures(&found)?;
+    for (file, text) in &pictures {
+        let path = folder.join(file);
+        let there = fs::read(&path).map_err(|error| format!("{}: {error}", path.display()))?;
+        if there != text.as_bytes() {
+            return Err(format!("{} is not what the machine does now", path.display()));
+        }
+    }
+    let told = |error| format!("{}: {error}", folder.display());
+    for entry in fs::read_dir(folder).map_err(told)? {
+        let path = entry.map_err(told)?.path();
+        let known = pictures.iter().any(|(file, _)| path.ends_with(file));
+        if !known && path.extension().is_some_and(|end| end == "svg") {
+            return Err(format!("{} is no picture of a state model", path.display()));
+        }
+    }
+    let edges = found.edges.len();
+    say(&format!(
+        "diagrams: {} pictures, {edges} transitions in {} tools: as checked in\n",
+        pictures.len(),
+        found.tools
+    ))
+}
+
+fn list(found: &Found) -> String {
+    let mut text = String::new();
+    for (edge, causes) in &found.edges {
+        let causes: Vec<String> =
+            causes.iter().map(|(&cause, &kinds)| diagrams::text::cause(cause, kinds)).collect();
+        text += &format!("{} {}>{}  {}\n", edge.model.number(), edge.old, edge.new, causes.join(", "));
+    }
+    text
+}
+
+/// Each wider search takes a minute or so; together they hold what the bounds of `explore` leave out.
+fn wide() -> Result<(), String> {
+    let narrow = list(&explore());
+    let three: [&[u8]; 3] = [NAMES[0], NAMES[1], b"C"];
+    let mut found = Found::default();
+    for (ports, places, names) in [(1, 0, &three[..]), (1, 1, &three), (1, 2, &NAMES), (2, 0, &NAMES)] {
+        explore_from(ports, places, names, &mut found);
+        println!("ports {ports}, places {places}, names {}: {} tools so far", names.len(), found.tools);
+    }
+    match list(&found) == narrow {
+        true => say("diagrams: nothing else\n"),
+        false => Err(format!("the wider search found\n{}and the pictures have\n{narrow}", list(&found))),
+    }
+}

@@ -1,0 +1,83 @@
+//! Joins what was found with the layout, and fails where one has what the other lacks.
+use crate::explore::{Edge, Found};
+use crate::layout::{Layout, Node, Route};
+use crate::text;
+use hawsermole::Model;
+use std::collections::BTreeMap;
+
+/// A transition with the words that it is drawn with.
+#[derive(Debug)]
+pub struct Arrow {
+    pub route: Route,
+    pub lines: Vec<String>,
+}
+
+/// A picture, ready to be drawn.
+#[derive(Debug)]
+pub struct Plan {
+    pub layout: Layout,
+    pub arrows: Vec<Arrow>,
+}
+
+/// Joins the two; `Err` names the first state or transition that only one of them has.
+pub fn plan(layout: &Layout, found: &Found) -> Result<Plan, String> {
+    let mut words = words_found(layout.model, found);
+    check_states(layout, &words)?;
+    let mut arrows = Vec::new();
+    for &route in layout.routes {
+        let lines = words.remove(&(route.from, route.to)).ok_or_else(|| {
+            format!("{}: {} has a way but wasn't found", layout.file, arrow(route.from, route.to))
+        })?;
+        arrows.push(Arrow { route, lines });
+    }
+    match words.keys().next() {
+        Some(&(from, to)) => Err(format!("{}: {} was found but has no way", layout.file, arrow(from, to))),
+        None => Ok(Plan { layout: *layout, arrows }),
+    }
+}
+
+type Words = BTreeMap<(Node, Node), Vec<String>>;
+
+fn words_found(model: Model, found: &Found) -> Words {
+    let mut words = Words::new();
+    for &(_, first) in found.first.iter().filter(|(of, _)| *of == model) {
+        words.insert((Node::SetUp, Node::State(first)), vec!["set-up".into()]);
+    }
+    for (&Edge { model, old, new }, causes) in found.edges.iter().filter(|(edge, _)| edge.model == model) {
+        let lines = causes.iter().map(|(&cause, &kinds)| text::cause(cause, kinds)).collect();
+        words.insert((node(model, old), node(model, new)), lines);
+    }
+    words
+}
+
+/// 0 is a state of a port, and "no state" of a carrier.
+fn node(model: Model, state: u8) -> Node {
+    match model {
+        Model::Id | Model::Slot | Model::Accessing if state == 0 => Node::NoRecord,
+        _ => Node::State(state),
+    }
+}
+
+fn check_states(layout: &Layout, words: &Words) -> Result<(), String> {
+    let ends = || words.keys().flat_map(|&(from, to)| [from, to]);
+    for end in ends() {
+        if let Node::State(state) = end {
+            if !layout.states.iter().any(|&(placed, _)| placed == state) {
+                return Err(format!("{}: state {state} was found but has no place", layout.file));
+            }
+        }
+    }
+    match layout.states.iter().find(|&&(placed, _)| !ends().any(|end| end == Node::State(placed))) {
+        Some((state, _)) => Err(format!("{}: state {state} has a place but wasn't found", layout.file)),
+        None => Ok(()),
+    }
+}
+
+fn arrow(from: Node, to: Node) -> String {
+    let name = |node| match node {
+        Node::State(state) => format!("state {state}"),
+        Node::NoRecord => "no state".into(),
+        Node::SetUp => "set-up".into(),
+    };
+    format!("{} to {}", name(from), name(to))
+}

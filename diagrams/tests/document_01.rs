@@ -1,0 +1,76 @@
+//! What the search finds is what document 01's rows say, row by row, and nothing else.
+use diagrams::explore::{explore, Found};
+use std::collections::{BTreeMap, BTreeSet};
+use std::sync::LazyLock;
+
+static FOUND: LazyLock<Found> = LazyLock::new(explore);
+
+/// The changes that each row of document 01 brings to a tool that runs reach, as `model old>new`; rows that bring none are left
+/// out (LoadDone, Open).
+const ROWS: [(u32, &str); 24] = [
+    (1, "3 0>1, 4 0>1, 5 0>1, 6 0>1, 7 0>1"),
+    (2, "3 1>0, 4 1>0, 5 1>0, 6 1>0, 7 1>0"),
+    (3, "5 0>1, 6 0>1, 7 0>1"),
+    (4, "5 1>0, 6 1>0, 7 1>0"),
+    (5, "4 0>1, 5 0>3, 5 1>3, 5 2>3, 6 0>1, 6 2>3, 7 0>1"),
+    (6, "1 3>2, 4 0>1, 5 0>4, 5 1>4, 5 2>4, 6 0>1, 6 2>4, 7 0>1"),
+    (7, "1 1>2, 4 0>1"),
+    (8, "1 2>3"),
+    (9, "2 0>1, 2 1>0"),
+    (10, "1 0>1, 1 1>0"),
+    (11, "3 0>1"),
+    (12, "3 1>0"),
+    (13, "1 1>3, 3 1>0"),
+    (15, "1 3>1"),
+    (16, "4 0>1, 4 1>1, 5 0>2, 5 1>0, 5 1>2, 5 1>3, 6 0>1, 6 1>0, 7 0>1, 7 1>0"),
+    (17, "5 1>2"),
+    (18, "1 3>1, 4 1>0"),
+    (20, "6 1>2"),
+    (21, "7 1>2"),
+    (22, "7 2>3, 7 2>4"),
+    (23, "1 3>2"),
+    (24, "1 2>3"),
+    (25, "1 3>1, 4 1>0, 5 3>0, 5 4>0, 6 1>0, 6 2>0, 6 3>0, 6 4>0, 7 1>0, 7 3>0, 7 4>0"),
+    (26, "1 3>2"),
+];
+
+fn by_row(found: &Found) -> BTreeMap<u32, BTreeSet<String>> {
+    let mut rows: BTreeMap<u32, BTreeSet<String>> = BTreeMap::new();
+    for (edge, causes) in &found.edges {
+        for cause in causes.keys() {
+            let change = format!("{} {}>{}", edge.model.number(), edge.old, edge.new);
+            rows.entry(cause.number).or_default().insert(change);
+        }
+    }
+    rows
+}
+
+#[test]
+fn every_row_brings_the_changes_of_document_01() {
+    let found = by_row(&FOUND);
+    let written = ROWS.map(|(row, changes)| (row, changes.split(", ").map(String::from).collect()));
+    assert_eq!(found, BTreeMap::from(written));
+}
+
+/// The choices stand with the transition that they bring.
+#[test]
+fn choices_lead_where_document_01_says() {
+    let found = &*FOUND;
+    let lead = |number| {
+        let causes =
+            found.edges.iter().flat_map(|(edge, causes)| causes.keys().map(move |cause| (edge, cause)));
+        let of_row = causes.filter(move |(_, cause)| cause.number == number);
+        of_row.map(|(edge, cause)| (edge.old, edge.new, cause.choice)).collect::<Vec<_>>()
+    };
+    assert_eq!(lead(9), [(0, 1, Some(1)), (1, 0, Some(0))]);
+    assert_eq!(lead(10), [(0, 1, Some(1)), (1, 0, Some(0))]);
+    assert_eq!(lead(22), [(2, 3, Some(0)), (2, 4, Some(1))]);
+    assert_eq!(lead(11), [(0, 1, None)]);
+}
+
+/// "At set-up: 1, 0, 0, no tie", for transfer, access, reservation and tie.
+#[test]
+fn ports_begin_as_document_01_says() {
+    let first: Vec<(u8, u8)> = FOUND.first.iter().map(|(model, state)| (model.number(), *state)).collect();
+    assert_eq!(first, [(1, 1), (2, 0), (3, 0), (4, 0)]);
+}
