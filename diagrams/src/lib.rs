@@ -1,6 +1,6 @@
 //! The state models of document 01 as pictures, found by running the proved machine: [`explore`] finds every transition that a
 //! run from set-up can cause, [`layout`] says where things stand, [`plan`] joins the two, [`shape`] sees that nothing lies on
-//! anything else, and [`svg`] writes.
+//! anything else, and [`svg`] writes. [`walk`] makes tables of played scripts.
 #![forbid(unsafe_code)]
 
 pub mod explore;
@@ -9,6 +9,7 @@ pub mod plan;
 pub mod shape;
 pub mod svg;
 pub mod text;
+pub mod walk;
 
 /// Every picture: its file's name and what the file holds.
 pub fn pictures(found: &explore::Found) -> Result<Vec<(&'static str, String)>, String> {

@@ -3,6 +3,7 @@
 
 use diagrams::explore::{explore, explore_from, Found, NAMES};
 use diagrams::pictures;
+use diagrams::walk::walk;
 use std::ffi::OsString;
 use std::fs;
 use std::path::Path;
@@ -11,6 +12,7 @@ use std::process::ExitCode;
 const USAGE: &str = "\
 usage: diagrams DIR            writes the pictures of the state models to DIR
        diagrams --check DIR    status 1 unless DIR holds just the pictures that would be written
+       diagrams --walk FILE    plays a script of the command line and prints it as a table
        diagrams --list         prints the transitions and what causes them
        diagrams --wide         searches more ports, places and names; status 1 if that finds anything else
 ";
@@ -21,6 +23,7 @@ fn main() -> ExitCode {
         [Some("--help")] => say(USAGE),
         [Some("--list")] => say(&list(&explore())),
         [Some("--wide")] => wide(),
+        [Some("--walk"), _] => walked(Path::new(&arguments[1])),
         [Some("--check"), _] => check(Path::new(&arguments[1])),
         [Some(option)] if option.starts_with('-') => Err(format!("unknown arguments\n{USAGE}")),
         [_] => write(Path::new(&arguments[0])),
@@ -38,6 +41,12 @@ fn main() -> ExitCode {
 fn say(text: &str) -> Result<(), String> {
     print!("{text}");
     Ok(())
+}
+
+fn walked(file: &Path) -> Result<(), String> {
+    let script = fs::read_to_string(file).map_err(|error| format!("{}: {error}", file.display()))?;
+    let rows = walk(&script).map_err(|message| format!("{}: {message}", file.display()))?;
+    say(&(rows.join("\n") + "\n"))
 }
 
 fn write(folder: &Path) -> Result<(), String> {

@@ -1,0 +1,164 @@
+//! Plays a script of the command line and writes it as a table: each input, its answer and reports, and what stands after it.
+use hawsermole::{words, Argument, Carrier, Input, Parts, Port, Reports, Row, Subject, Tool};
+
+/// A script's steps as rows of a Markdown table.
+pub fn walk(script: &str) -> Result<Vec<String>, String> {
+    let mut tool = Tool::none();
+    let mut rows = Vec::new();
+    for (place, line) in script.lines().enumerate() {
+        let told = |message| format!("line {}: {message}", place + 1);
+        let words: Vec<&str> = line.split_whitespace().collect();
+        match words[..] {
+            [] | ["dump"] => {}
+            [first, ..] if first.starts_with('#') => {}
+            ["setup", ports, places] => {
+                let size = |word: &str| word.parse().map_err(|_| told("not a set-up".into()));
+                tool =
+                    Tool::setup(size(ports)?, size(places)?).map_err(|refusal| told(refusal.to_string()))?;
+            }
+            _ => rows.push(step(&mut tool, &words).map_err(told)?),
+        }
+    }
+    Ok(rows)
+}
+
+/// An answer and its reports as the command line prints them.
+pub fn answer(result: Result<Reports, hawsermole::Refusal>) -> String {
+    let (number, reports) = match result {
+        Ok(reports) => (0, reports),
+        Err(refusal) => (refusal.number(), Reports::default()),
+    };
+    let reports: Vec<String> = reports.map(report).collect();
+    match reports.is_empty() {
+        true => format!("{number}  none"),
+        false => format!("{number}  {}", reports.join("; ")),
+    }
+}
+
+fn report(report: hawsermole::Report) -> String {
+    let subject = match report.subject {
+        Subject::Port(port) => port.to_string(),
+        Subject::Carrier(name) => name.to_string(),
+    };
+    format!("{} {subject} {}>{}", report.model.number(), report.old, report.new)
+}
+
+fn step(tool: &mut Tool, words: &[&str]) -> Result<String, String> {
+    let codes = codes(words);
+    let input = read(words, &codes).ok_or("not an input by name")?;
+    let before = tool.clone();
+    let answered = answer(tool.step(&input));
+    let after = match answered.starts_with('0') {
+        true => changes(&before, tool),
+        false => "as before".into(),
+    };
+    Ok(format!("| {input} | `{answered}` | {after} |"))
+}
+
+fn codes(words: &[&str]) -> Vec<u8> {
+    let digits = words.last().map_or("", |word| word);
+    digits.bytes().map(|digit| digit.wrapping_sub(b'0')).collect()
+}
+
+fn read<'a>(words: &[&'a str], codes: &'a [u8]) -> Option<Input<'a>> {
+    let row = Row::named(words[0])?;
+    let mut parts = Parts { number: row.number, ..Parts::default() };
+    if words.len() != row.arguments.len() + 1 {
+        return None;
+    }
+    for (argument, word) in row.arguments.iter().zip(&words[1..]) {
+        match argument {
+            Argument::Port | Argument::PortOrNone => parts.port = word.parse().ok()?,
+            Argument::Name | Argument::NameOrNone => parts.name = word.as_bytes(),
+            Argument::Codes => parts.codes = codes,
+            _ => parts.value = word.parse().ok()?,
+        }
+    }
+    Input::from_parts(&parts)
+}
+
+/// Each port and carrier that isn't as it was, in full.
+fn changes(before: &Tool, after: &Tool) -> String {
+    let old = |carrier: &Carrier| before.carriers().any(|old| old == *carrier);
+    let ports = after.ports().zip(before.ports()).filter(|(now, then)| now != then).map(|(now, _)| port(now));
+    let carriers = after.carriers().filter(|now| !old(now)).map(carrier);
+    let stays = |gone: &Carrier| after.carriers().any(|now| now.name == gone.name);
+    let gone = before.carriers().filter(|then| !stays(then)).map(|then| format!("{}: no record", then.name));
+    let all: Vec<String> = ports.chain(carriers).chain(gone).collect();
+    match all.is_empty() {
+        true => "as before".into(),
+        false => all.join("<br>"),
+    }
+}
+
+fn port(port: Port) -> String {
+    let mut text = format!("port {}: {}", port.number, words::transfer(port.transfer));
+    if port.access != 0 {
+        text += &format!(", {}", words::access(port.access));
+    }
+    if port.reserved != 0 {
+        text += ", reserved";
+    }
+    if !port.tie.is_none() {
+        text += &format!(", tied to {}", port.tie);
+    }
+    if port.movement != 0 {
+        text += &format!(", {}", words::movement(port.movement));
+    }
+    if port.pod != 0 {
+        text += &format!(", pod, tag {}", words::tag(port.tag));
+    }
+    text
+}
+
+fn carrier(carrier: Carrier) -> String {
+    let place = match carrier.place {
+        0 => "expected".into(),
+        1 => format!("at port {}", carrier.port),
+        _ => format!("in place {}", carrier.spot),
+    };
+    let open = if carrier.open == 0 { "closed" } else { "open" };
+    let Carrier { name, id, slot, accessing, .. } = carrier;
+    let mut text = format!("{name}: {place}, {open}, ID {id}, slot {slot}, accessing {accessing}");
+    for (flag, word) in [(carrier.cancelled, ", cancelled"), (carrier.came_out, ", came out")] {
+        if flag != 0 {
+            text += word;
+        }
+    }
+    text
+}
+
+#[cfg(test)]
+mod tests {
+    use super::*;
+
+    #[test]
+    fn steps_become_rows() {
+        let rows =
+            walk("# a comment\nsetup 1 0\n\nLoadStart 1\nOpen AB\nLoadFail 1\ndump\nChangeAccess 1 0\n")
+                .unwrap();
+        assert_eq!(
+            rows,
+            [
+                "| LoadStart(1) | `0  1 1 1>3` | port 1: TRANSFER BLOCKED, loading |",
+                "| Open(AB) | `2  none` | as before |",
+                "| LoadFail(1) | `0  1 1 3>1` | port 1: READY TO LOAD |",
+                "| ChangeAccess(1, 0) | `0  none` | as before |",
+            ]
+        );
+    }
+
+    #[test]
+    fn what_goes_is_told() {
+        let rows = walk("setup 1 0\nCarrierNotification AB\nCancelCarrierNotification AB\n").unwrap();
+        assert!(rows[0].ends_with("| AB: expected, closed, ID 1, slot 1, accessing 1 |"), "{}", rows[0]);
+        assert!(rows[1].ends_with("| AB: no record |"), "{}", rows[1]);
+    }
+
+    #[test]
+    fn lines_that_cant_be_read_are_told() {
+        assert_eq!(walk("setup 1 0\nFrobnicate 1").unwrap_err(), "line 2: not an input by name");
+        assert_eq!(walk("setup 1 0\n\nBind 1").unwrap_err(), "line 3: not an input by name");
+        assert!(walk("setup 9 0").unwrap_err().starts_with("line 1: a port, place"));
+    }
+}
