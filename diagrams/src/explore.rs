@@ -3,7 +3,7 @@
 //! The search is complete within its bounds: all runs, of any length, of the tools in [`SETUPS`] with inputs made of the ports of
 //! the tool (and 0), the names in [`NAMES`] (and none), every buffer place, both values of every choice, and one slot map. A tool
 //! that was met before isn't followed again, so the search ends by itself.
-use hawsermole::{Argument, Input, Model, Parts, Row, Tool, ROWS, TOOL_BYTES};
+use hawsermole::{Argument, Input, Model, Parts, Reports, Row, Tool, ROWS, TOOL_BYTES};
 use std::collections::{BTreeMap, BTreeSet, HashSet, VecDeque};
 
 /// Ports and buffer places. One port and two names meet all that needs two carriers: a name that isn't the one announced. More
@@ -54,27 +54,42 @@ pub fn explore() -> Found {
     found
 }
 
-/// Searches the runs of one set-up, breadth first.
+/// Searches the runs of one set-up.
 pub fn explore_from(ports: u32, places: u32, names: &[&[u8]], found: &mut Found) {
+    let start = Tool::setup(ports, places).expect("the bounds are a tool's");
+    found.first.extend(start.ports().flat_map(states_at));
+    let tools = each_step(ports, places, names, |_, input, reports| {
+        for report in reports {
+            let edge = Edge { model: report.model, old: report.old, new: report.new };
+            found.note(edge, cause(input), places);
+        }
+    });
+    found.tools += tools;
+}
+
+/// Calls with each accepted input to each tool that is reached, breadth first: the tool after it, the input, its reports. Gives
+/// the number of tools.
+pub fn each_step(
+    ports: u32,
+    places: u32,
+    names: &[&[u8]],
+    mut call: impl FnMut(&Tool, &Input<'_>, Reports),
+) -> usize {
     let inputs = inputs(ports, places, names);
     let start = Tool::setup(ports, places).expect("the bounds are a tool's");
     let mut met: HashSet<[u8; TOOL_BYTES]> = HashSet::from([*start.as_bytes()]);
-    found.first.extend(start.ports().flat_map(states_at));
     let mut waiting = VecDeque::from([start]);
     while let Some(tool) = waiting.pop_front() {
         for input in &inputs {
             let mut next = tool.clone();
             let Ok(reports) = next.step(input) else { continue };
-            for report in reports {
-                let edge = Edge { model: report.model, old: report.old, new: report.new };
-                found.note(edge, cause(input), places);
-            }
+            call(&next, input, reports);
             if met.insert(*next.as_bytes()) {
                 waiting.push_back(next);
             }
         }
     }
-    found.tools += met.len();
+    met.len()
 }
 
 fn states_at(port: hawsermole::Port) -> [(Model, u8); 4] {

@@ -20,3 +20,8 @@ pub fn pictures(found: &explore::Found) -> Result<Vec<(&'static str, String)>, S
     };
     layout::LAYOUTS.iter().map(picture).collect()
 }
+
+/// The manual's Rust, compiled and run as a doc test.
+#[cfg(doctest)]
+#[doc = include_str!("../../docs/MANUAL.md")]
+pub struct Manual;
