@@ -10,7 +10,7 @@ for program in pandoc weasyprint pdfinfo; do
 done
 mkdir -p "$root/target"
 html=$root/target/manual.html
-pandoc --from gfm --standalone --metadata pagetitle="Hawsermole: the manual" --css "$root/diagrams/print.css" \
+pandoc --from gfm --standalone --no-highlight --metadata pagetitle="Hawsermole: the manual" --css "$root/diagrams/print.css" \
     "$root/docs/MANUAL.md" --output "$html"
 weasyprint --quiet --base-url "$root/docs/" "$html" "$root/target/manual.pdf"
 pages=$(pdfinfo "$root/target/manual.pdf" | sed -n 's/^Pages: *//p')

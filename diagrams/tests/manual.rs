@@ -73,6 +73,19 @@ fn links_lead_somewhere() {
     }
 }
 
+/// One heading is one page, and the contents name each with its number; they are the first page.
+#[test]
+fn contents_have_every_page() {
+    let manual = read("docs/MANUAL.md");
+    let headings = manual.lines().filter_map(|line| line.strip_prefix("## "));
+    let pages: Vec<String> = headings.zip(2..).map(|(heading, page)| format!("| {page} | [{heading}](")).collect();
+    let contents = between(&manual, "| Page | | For |\n|---|---|---|\n", "\n\n")[0];
+    assert_eq!(contents.lines().count(), pages.len());
+    for (line, page) in contents.lines().zip(pages) {
+        assert!(line.starts_with(&page), "{line}");
+    }
+}
+
 #[test]
 fn labels_and_scripts_are_there() {
     let (manual, narrowings) = (read("docs/MANUAL.md"), read("docs/NARROWINGS.md"));
@@ -85,9 +98,9 @@ fn labels_and_scripts_are_there() {
     }
     let folder = fs::read_dir(root().join("tests/scenarios")).unwrap();
     let there: Vec<String> = folder.map(|entry| entry.unwrap().file_name().into_string().unwrap()).collect();
-    let cited = between(&manual, "`", "`")
-        .into_iter()
-        .filter(|word| word.starts_with("r1_2_") || word.starts_with("narrowings_"));
+    let mut cited = between(&manual, "`", "`");
+    cited.retain(|word| word.starts_with("r1_2_") || word.starts_with("narrowings_"));
+    assert!(cited.len() > 10);
     for script in cited {
         assert!(there.iter().any(|file| file.starts_with(script)), "{script}");
     }
