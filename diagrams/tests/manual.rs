@@ -78,7 +78,8 @@ fn links_lead_somewhere() {
 fn contents_have_every_page() {
     let manual = read("docs/MANUAL.md");
     let headings = manual.lines().filter_map(|line| line.strip_prefix("## "));
-    let pages: Vec<String> = headings.zip(2..).map(|(heading, page)| format!("| {page} | [{heading}](")).collect();
+    let pages: Vec<String> =
+        headings.zip(2..).map(|(heading, page)| format!("| {page} | [{heading}](")).collect();
     let contents = between(&manual, "| Page | | For |\n|---|---|---|\n", "\n\n")[0];
     assert_eq!(contents.lines().count(), pages.len());
     for (line, page) in contents.lines().zip(pages) {
