@@ -2,13 +2,15 @@
 #   make                builds the command line, target/hawsermole
 #   make bench          measures the figures of docs/FIGURES.md
 #   make compare N=..   compares the proved machine with the independent program on more inputs
+#   make diagrams       draws docs/diagrams again, from what the machine does
+#   make manual         docs/MANUAL.md as target/manual.pdf (needs pandoc, weasyprint and poppler-utils)
 include tools/host.mk
 
 ARCHIVE = target/staticlib/libhawsermole.a
 N = 100000
 CALLERS = 50000
 
-.PHONY: all run test bench library cross independent rust cli scenarios c sanitize compare
+.PHONY: all run test bench library cross independent rust cli scenarios c sanitize compare diagrams pictures manual
 
 all: target/hawsermole
 
@@ -62,8 +64,20 @@ bench: $(NATIVE)/libhawsermole.a cross
 	bench/instructions.sh bench/target/$(RELEASE)/bench
 	cd bench && HAWSERMOLE_LIB_DIR=$(abspath $(NATIVE)) cargo run --offline --quiet --release -- time
 
+diagrams: library cross
+	cd diagrams && $(CARGO) run --offline --quiet --locked -- ../docs/diagrams
+
+# The pictures and the manual's quotes are what the programs give.
+pictures: target/hawsermole
+	cd diagrams && $(CARGO) test --offline --quiet --locked
+	cd diagrams && $(CARGO) run --offline --quiet --locked -- --check ../docs/diagrams
+	CC="$(CC)" EMULATOR="$(EMULATOR)" diagrams/quotes.sh target/hawsermole
+
+manual:
+	diagrams/print.sh
+
 include tests/c/c.mk
 
-test: independent rust cli scenarios c sanitize compare
+test: independent rust cli scenarios pictures c sanitize compare
 	rt fmt --check
 	rt ci
