@@ -49,7 +49,7 @@ extern "C" {
 #define HM_REPORTS_BYTES 141
 
 /* Stack that one call may need, with room to spare; tests/c/stack.c measures it. */
-#define HM_STACK_BYTES 20480
+#define HM_STACK_BYTES 4096
 
 /* Port 0 means "not given", in the inputs whose port may be left out (2, 5 and 6). */
 #define HM_PORT_NOT_GIVEN 0

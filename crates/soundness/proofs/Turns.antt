@@ -7,7 +7,8 @@ use mathlib.Core.Path.{_≡_, refl, ap, ap₂, sym, _∙_}
 use mathlib.Core.Bool.{Bool, true, false, cond, _&&_}
 use mathlib.Core.List.{List, [], _∷_}
 use lib.ListN.{length, getD, take, replicate}
-use lib.Dec.{eqb}
+use lib.Dec.{eqb, ltb}
+use borrow.Author.Tests.{ltb-false}
 use Rattle.lists.specs.Lists.{every, everyTwo, howMany, sameList}
 use Rattle.lists.proofs.Bools.{and-l, and-r, and-i}
 use Rattle.lists.proofs.Tests.{every-at}
@@ -85,6 +86,15 @@ module _ {A : Type 0} where
   two-of F f (suc n) h =
       and-i (every-of (F (f 0)) (λ k. f (suc k)) n (λ j b. h 0 (suc j) (omega arith) (suc-le-suc b)))
       (two-of F (λ k. f (suc k)) n (λ i j a b. h (suc i) (suc j) (suc-le-suc a) (suc-le-suc b)))
+
+  -- a loop that stops at the first failure
+  pub stopped : (F : A → Bool) (f : ℕ → A) (ok : Bool) (j n : ℕ) → j ≤ n → ok ≡ every F (table j f) → (ok && ltb j n) ≡ false → ok ≡ every F (table n f)
+  stopped F f true j n h e t = let b = ltb-false j n t in let z : j ≡ n = omega arith in rw z at e
+  stopped F f false j n h e t = sym (go (every F (table n f)) refl)
+    where
+      go : (b : Bool) → every F (table n f) ≡ b → b ≡ false
+      go true q = sym (every-of F f j (λ k c. every-on F f n q k (omega arith))) ∙ sym e
+      go false q = refl
 
   -- a table of one value
   pub table-none : (n : ℕ) (x : A) → replicate n x ≡ table n (λ _. x)

@@ -29,7 +29,8 @@ fn mark(m: &[u8; 1891], o: usize) -> usize
     ((low + high) / 17179869184 % 1024) as usize
 }
 
-// The record at position k has another name than each of the first n.
+// The record at position k has another name than each of the first n. It stops at the first that has not: a loop without an
+// end of its own would be taken apart byte by byte.
 fn alone(m: &[u8; 1891], k: usize, n: usize) -> bool
     requires { ⌜ k < 36 ⌝ }
     requires { ⌜ n ≤ 36 ⌝ }
@@ -37,7 +38,7 @@ fn alone(m: &[u8; 1891], k: usize, n: usize) -> bool
 {
     let mut ok = true;
     let mut j = 0;
-    while j < n {
+    while ok & (j < n) {
         ok = !same(m, 91 + 50 * j, 91 + 50 * k) & ok;
         j += 1;
     }

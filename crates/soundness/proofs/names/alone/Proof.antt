@@ -2,11 +2,14 @@ use borrow.Author.Needs.{needs}
 use native.Mathlib.Omega.{arith}
 use Prim.Native.Nat.{_≤_, _<_, _-_}
 use mathlib.Core.Path.{_≡_, refl}
+use lib.Dec.{ltb}
+use borrow.Author.Tests.{ltb-true}
 use Rattle.lists.specs.Lists.{every}
+use Rattle.lists.proofs.Bools.{and-r}
 use Rattle.rules.specs.Sound.{otherName}
 use Rattle.image.specs.Image.{table}
 use Rattle.soundness.specs.Passes.{recordOn}
-use Rattle.soundness.proofs.Turns.{every-next}
+use Rattle.soundness.proofs.Turns.{every-next, stopped}
 use Rattle.soundness.proofs.names.alone.Statement.{statement}
 use Rattle.soundness.proofs.names.alone.Tie as tie
 
@@ -21,21 +24,30 @@ loop-holds : tie.Need-loop-holds Inv-loop μ-loop
 unfolding every table
 loop-holds c = (omega arith, omega arith, omega arith, refl)
 
+-- it goes on: there is more
+within : (c : tie.In-loop Inv-loop μ-loop) → c .before .loop .j < c .before .before .args .n
+within c =
+    let j = c .before .loop .j in
+    let n = c .before .before .args .n in
+    ltb-true j n (and-r (c .before .loop .ok) (ltb j n) (c .loop-test .taken))
+
 loop-again : tie.Need-loop-again Inv-loop μ-loop
 unfolding otherName
 loop-again c =
     let b = c .before .before in
     let m = b .before .args .m .now in
     let k = b .before .args .k in
+    let w = within (c .before) in
     (omega arith, omega arith, omega arith, rw (every-next (λ c. otherName c (recordOn m k)) (recordOn m) (b .loop .j), c .same .ensures, b .loop .inv .3))
 
 returns : tie.Need-returns Inv-loop μ-loop
 returns c =
-    let z : c .before .loop .j ≡ c .before .before .args .n = omega arith in
-    rw z at (c .before .loop .inv .3)
+    let b = c .before in
+    let m = b .before .args .m .now in
+    stopped (λ c. otherName c (recordOn m (b .before .args .k))) (recordOn m) (b .loop .ok) (b .loop .j) (b .before .args .n) (omega arith) (b .loop .inv .3) (c .loop-test .left)
 
 pub alone-spec : {M : Type 1} → statement M
 alone-spec =
     tie.close
-    (tie.spec Inv-loop μ-loop loop-holds (λ c. omega arith) (λ c. omega arith) (λ c. omega arith) (λ c. omega arith) (λ c κs. (omega arith, omega arith))
-    (λ c. omega arith) (λ c. omega arith) loop-again returns)
+    (tie.spec Inv-loop μ-loop loop-holds (λ c. omega (arith, within c)) (λ c. omega (arith, within c)) (λ c. omega (arith, within c)) (λ c. omega (arith, within c))
+    (λ c κs. (omega (arith, within c), omega (arith, within c))) (λ c. omega (arith, within (c .before))) (λ c. omega (arith, within (c .before))) loop-again returns)
