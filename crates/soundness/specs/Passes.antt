@@ -1,5 +1,5 @@
 -- What each pass over a tool's bytes looks at.
-use Prim.Native.Nat.{ℕ, zero, suc, _+_, _-_, _*_, _/_, _%_}
+use Prim.Native.Nat.{ℕ, zero, suc, _+_, _-_, _*_, _/_, _%_, _^_}
 use mathlib.Core.Bool.{Bool, not, cond, _&&_, _||_}
 use mathlib.Core.List.{List}
 use lib.ListN.{getD}
@@ -63,13 +63,20 @@ unfoldable pub tieFits : List ℕ → ℕ → ℕ → Bool
 tieFits m k a = cond (eqb a 0) (every isZero (bytesFrom m (portStart k + 3) 16))
     (sameName (portOn m k .tie) (recordOn m (a - 1) .name) && openAgrees (portOn m k) (recordOn m (a - 1)))
 
--- four bytes as one number, and the mark that a name leaves: where names are the same the marks are
-unfoldable pub word : List ℕ → ℕ → ℕ
-word m o = byteAt m o + byteAt m (o + 1) * 256 + byteAt m (o + 2) * 65536 + byteAt m (o + 3) * 16777216
+-- n bytes as one number, the first the lowest; a name is two of eight
+unfoldable pub number : ℕ → (ℕ → ℕ) → ℕ
+number zero f = 0
+number (suc n) f = f 0 + 256 * number n (λ i. f (suc i))
+
+abbrev pub word : List ℕ → ℕ → ℕ
+word m o = number 8 (λ i. byteAt m (o + i))
+
+-- the mark that a name leaves: where names are the same the marks are
+abbrev pub mixed : ℕ → ℕ
+mixed x = (x % 4294967296 * 506952113 + x / 4294967296 * 625341585) / 17179869184 % 1024
 
 unfoldable pub mark : List ℕ → ℕ → ℕ
-mark m o =
-    ((word m o * 506952113 + word m (o + 4) * 625341585) + (word m (o + 8) * 374761393 + word m (o + 12) * 668265263)) / 17179869184 % 1024
+mark m o = mixed ((word m o + word m (o + 8)) % 2 ^ 64)
 
 abbrev pub markKey : List ℕ → ℕ → ℕ
 markKey m k = mark m (carrierStart k)

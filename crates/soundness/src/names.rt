@@ -1,21 +1,24 @@
 // Names differ. Each leaves a mark, and only where that is taken is a name compared with those before it.
 ghost use mathlib.Core.Path.{_≡_};
-ghost use Prim.Native.Nat.{_≤_, _<_, _+_};
+ghost use Prim.Native.Nat.{ℕ, _≤_, _<_, _+_};
 ghost use Rattle.lists.specs.Lists.{every, everyTwo};
 ghost use Rattle.rules.specs.Sound.{otherName};
-ghost use Rattle.image.specs.Image.{table, carrierStart};
+ghost use Rattle.image.specs.Image.{table, byteAt};
 ghost use Rattle.soundness.specs.Passes.{recordOn, word, mark};
 use crate::bytes::broad;
-use crate::bytes::same;
 use records::choose::wide;
+use std::num::wrapping_add_u64;
 
-// Four bytes as one number.
+// Eight bytes as one number.
 fn word(m: &[u8; 1891], o: usize) -> u64
-    requires { ⌜ o + 4 ≤ 1891 ⌝ }
+    requires { ⌜ o + 8 ≤ 1891 ⌝ }
     ensures { λ r. ⌜ r ≡ word (now (m .entry)) o ⌝ }
-    ensures { λ r. ⌜ r < 4294967296 ⌝ }
+    ensures { λ _. ⌜ ((i : ℕ) → i < 8 → byteAt (now (m .entry)) (o + i) < 256) ⌝ }
 {
-    broad(m[o]) + broad(m[o + 1]) * 256 + broad(m[o + 2]) * 65536 + broad(m[o + 3]) * 16777216
+    let high = broad(m[o + 4])
+        + 256 * (broad(m[o + 5]) + 256 * (broad(m[o + 6]) + 256 * broad(m[o + 7])));
+    let low = broad(m[o + 1]) + 256 * (broad(m[o + 2]) + 256 * (broad(m[o + 3]) + 256 * high));
+    broad(m[o]) + 256 * low
 }
 
 // The mark of the name at o.
@@ -24,22 +27,24 @@ fn mark(m: &[u8; 1891], o: usize) -> usize
     ensures { λ r. ⌜ r ≡ mark (now (m .entry)) o ⌝ }
     ensures { λ r. ⌜ r < 1024 ⌝ }
 {
-    let low = word(m, o) * 506952113 + word(m, o + 4) * 625341585;
-    let high = word(m, o + 8) * 374761393 + word(m, o + 12) * 668265263;
-    ((low + high) / 17179869184 % 1024) as usize
+    let x = wrapping_add_u64(word(m, o), word(m, o + 8));
+    let h = (x % 4294967296 * 506952113 + x / 4294967296 * 625341585) / 17179869184 % 1024;
+    h as usize
 }
 
-// The record at position k has another name than each of the first n. It stops at the first that has not: a loop without an
-// end of its own would be taken apart byte by byte.
+// The record at position k has another name than each of the first n.
 fn alone(m: &[u8; 1891], k: usize, n: usize) -> bool
     requires { ⌜ k < 36 ⌝ }
     requires { ⌜ n ≤ 36 ⌝ }
     ensures { λ r. ⌜ r ≡ every (λ c. otherName c (recordOn (now (m .entry)) k)) (table n (recordOn (now (m .entry)))) ⌝ }
 {
+    let a = word(m, 91 + 50 * k);
+    let b = word(m, 91 + 50 * k + 8);
     let mut ok = true;
     let mut j = 0;
     while ok & (j < n) {
-        ok = !same(m, 91 + 50 * j, 91 + 50 * k) & ok;
+        let same = (word(m, 91 + 50 * j) == a) & (word(m, 91 + 50 * j + 8) == b);
+        ok = !same & ok;
         j += 1;
     }
     ok
