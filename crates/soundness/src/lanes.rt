@@ -57,8 +57,10 @@ pub fn named(m: &[u8; 1891], n: usize) -> bool
     requires { ⌜ n ≤ 36 ⌝ }
     ensures { λ r. ⌜ r ≡ every namedBy (table n (recordOn (now (m .entry)))) ⌝ }
 {
-    let first: [u8; 16] = [1, 0, 0, 0, 0, 0, 0, 0, 0, 0, 0, 0, 0, 0, 0, 0];
-    let last: [u8; 16] = [0, 0, 0, 0, 0, 0, 0, 0, 0, 0, 0, 0, 0, 0, 0, 1];
+    let mut first = [0u8; 16];
+    let mut last = [0u8; 16];
+    first[0] = 1;
+    last[15] = 1;
     let mut good = [true; 16];
     let mut k = 0;
     while k < n {
@@ -73,74 +75,19 @@ pub fn fields(m: &[u8; 1891], n: usize) -> bool
     requires { ⌜ n ≤ 36 ⌝ }
     ensures { λ r. ⌜ r ≡ every fieldsFit (table n (recordOn (now (m .entry)))) ⌝ }
 {
-    let least: [u8; 32] = [
-        0,
-        0,
-        0,
-        0,
-        0,
-        0,
-        0,
-        0,
-        0,
-        0,
-        0,
-        0,
-        0,
-        0,
-        0,
-        0,
-        0,
-        0,
-        0,
-        0,
-        0,
-        0,
-        0,
-        0,
-        0,
-        0,
-        0,
-        0,
-        0,
-        1,
-        1,
-        1,
-    ];
-    let most: [u8; 32] = [
-        4,
-        1,
-        1,
-        1,
-        5,
-        5,
-        5,
-        5,
-        5,
-        5,
-        5,
-        5,
-        5,
-        5,
-        5,
-        5,
-        5,
-        5,
-        5,
-        5,
-        5,
-        5,
-        5,
-        5,
-        5,
-        5,
-        5,
-        5,
-        5,
-        4,
-        4,
-        4,
-    ];
+    // port; opened, cancelled and came-out; 25 codes; three statuses
+    let mut least = [0u8; 32];
+    let mut most = [5u8; 32];
+    most[0] = 4;
+    most[1] = 1;
+    most[2] = 1;
+    most[3] = 1;
+    least[29] = 1;
+    least[30] = 1;
+    least[31] = 1;
+    most[29] = 4;
+    most[30] = 4;
+    most[31] = 4;
     let mut good = [true; 32];
     let mut k = 0;
     while k < n {

@@ -19,8 +19,8 @@ fn seat(m: &[u8; 1891], k: usize, used: u8, places: u8) -> bool
     let place = m[o + 16];
     let spot = m[o + 17];
     let port = m[o + 18];
-    let within = ((place == 2) & ((1 <= spot) & (spot <= places))) | ((place != 2) & (spot == 0));
-    let tied = ((place != 1) | (port != 0)) & ((place != 2) | (port == 0));
+    let within = (((place == 2) & (spot != 0)) | ((place != 2) & (spot == 0))) & (spot <= places);
+    let tied = (place == 0) | (((place == 2) & (port == 0)) | ((place != 2) & (port != 0)));
     (place <= 2) & within & (port <= used) & tied & ((m[o + 19] != 1) | (place != 0))
 }
 

@@ -1,12 +1,15 @@
 use borrow.Author.Needs.{needs}
-use mathlib.Core.Path.{refl}
-use Rattle.rules.specs.Sound.{spotInRange, placeAgrees}
-use Rattle.soundness.specs.Passes.{seatFits}
+use Rattle.soundness.specs.Passes.{recordOn}
+use Rattle.soundness.proofs.Seated.{seat-tests}
 use Rattle.soundness.proofs.seats.seat.Statement.{statement}
 use Rattle.soundness.proofs.seats.seat.Tie as tie
 
+returns : tie.Need-returns
+returns c =
+    let a = c .before .before .before .before .args in
+    seat-tests (a .used) (a .places) (recordOn (a .m .now) (a .k))
+
 pub seat-spec : {M : Type 1} → statement M
-unfolding seatFits spotInRange placeAgrees
 seat-spec =
     tie.close
-    (tie.spec (λ c. search needs) (λ c. search needs) (λ c. search needs) (λ c. search needs) (λ c. search needs) (λ c. search needs) (λ c. search needs) (λ c. search needs) (λ c. search needs) (λ c. search needs) (λ c. refl))
+    (tie.spec (λ c. search needs) (λ c. search needs) (λ c. search needs) (λ c. search needs) (λ c. search needs) (λ c. search needs) (λ c. search needs) (λ c. search needs) (λ c. search needs) (λ c. search needs) returns)
