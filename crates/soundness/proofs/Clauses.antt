@@ -1,19 +1,18 @@
 -- The passes together are document 01's clauses.
-use Prim.Native.Nat.{ℕ, zero, suc, _+_, _-_, _*_, _<_, _≤_}
+use Prim.Native.Nat.{ℕ, zero, suc, _-_, _<_, _≤_}
 use native.Mathlib.Omega.{arith}
 use mathlib.Core.Path.{_≡_, refl, ap, sym, _∙_}
 use mathlib.Core.Logic.{_≢_}
 use mathlib.Core.Bool.{Bool, true, false, not, _&&_, _||_}
 use mathlib.Core.List.{List}
-use lib.ListN.{length, getD, drop}
+use lib.ListN.{length, drop}
 use lib.Dec.{eqb, leb, ltb}
 use borrow.Author.Tests.{eqb-true, eqb-false, eq-eqb, ne-eqb, le-leb, ltb-true, ltb-false}
-use Rattle.lists.specs.Lists.{every, everyTwo, any, howMany, between}
+use Rattle.lists.specs.Lists.{every, everyTwo, any, howMany}
 use Rattle.lists.proofs.Bools.{clash, and-l, and-r, and-i, or-l, or-r, or-other}
 use Rattle.lists.proofs.Tests.{any-here, any-not}
 use Rattle.records.specs.declared.carrier.Carrier.{Carrier}
 use Rattle.records.specs.Names.{noName, sameName, holdsName}
-use Rattle.records.specs.Ports.{noPort}
 use Rattle.records.specs.Carriers.{expected}
 use Rattle.rules.specs.State.{State, portOf}
 use Rattle.rules.specs.Sound.{portInRange, carrierInRange, inRange, otherName, tieKept, tieHeld, portTieHeld, tiesAgree, placeAgrees, otherSpot, fewExpected, portAgrees, openAgrees, sound, zeroPort}

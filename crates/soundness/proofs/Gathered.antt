@@ -1,17 +1,17 @@
 -- Lanes: an array changed in place, one entry for each position; and lanes that gather over the records.
-use Prim.Native.Nat.{ℕ, zero, suc, _+_, _<_, _≤_}
+use Prim.Native.Nat.{ℕ, _+_, _<_}
 use native.Mathlib.Omega.{arith}
 use mathlib.Core.Path.{_≡_, refl, ap, sym, _∙_}
 use mathlib.Core.Bool.{Bool, true, false, cond, _&&_}
 use mathlib.Core.Logic.{_≢_}
 use mathlib.Core.List.{List}
-use lib.ListN.{length, getD, set, replicate}
+use lib.ListN.{getD, set, replicate}
 use lib.Dec.{ltb}
 use borrow.Author.Tests.{lt-ltb, le-ltb, ltb-true, ltb-false}
 use Rattle.lists.specs.Lists.{every}
 use Rattle.lists.proofs.Bools.{same-test}
 use Rattle.image.specs.Image.{table}
-use Rattle.image.proofs.Table.{getD-table, table-same, table-set, is-table}
+use Rattle.image.proofs.Table.{getD-table, table-same, table-set}
 use Rattle.soundness.specs.Passes.{itself}
 use Rattle.soundness.proofs.Turns.{every-on, every-of, every-next, table-none}
 

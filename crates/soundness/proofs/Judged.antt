@@ -1,31 +1,28 @@
 -- The passes together are document 01's clauses: what each shows of a record, of a port, and of ties.
-use Prim.Native.Nat.{ℕ, zero, suc, _+_, _-_, _*_, _<_, _≤_}
+use Prim.Native.Nat.{ℕ, zero, suc, _-_, _<_, _≤_}
 use native.Mathlib.Omega.{arith}
 use native.Mathlib.Decide.{ℕ-discrete}
-use mathlib.Core.Path.{_≡_, refl, ap, sym, _∙_}
+use mathlib.Core.Path.{_≡_, refl, ap, sym}
 use mathlib.Core.Logic.{_≢_}
-use mathlib.Core.Bool.{Bool, true, false, not, cond, _&&_, _||_}
+use mathlib.Core.Bool.{Bool, true, false, not, _&&_, _||_}
 use mathlib.Core.List.{List}
-use lib.ListN.{length, getD, replicate, List·getD-eq-default}
-use lib.Dec.{eqb, leb, ltb}
-use borrow.Author.Tests.{eqb-true, eqb-false, eq-eqb, ne-eqb, leb-true, le-leb, ltb-true, ltb-false}
-use Rattle.lists.specs.Lists.{every, everyTwo, any, howMany, between, sameList}
-use Rattle.lists.proofs.Bools.{clash, and-l, and-r, and-i, or-l, or-r, or-other, not-true}
-use Rattle.lists.proofs.Tests.{any-here}
-use Rattle.records.specs.declared.name.Name.{Name}
+use lib.ListN.{List·getD-eq-default}
+use lib.Dec.{eqb, leb}
+use borrow.Author.Tests.{eqb-true, eqb-false, eq-eqb, ne-eqb, leb-true, le-leb}
+use Rattle.lists.specs.Lists.{every, everyTwo, sameList}
+use Rattle.lists.proofs.Bools.{clash, and-l, and-r, or-l, or-r, not-true}
 use Rattle.records.specs.declared.port.Port.{Port}
 use Rattle.records.specs.declared.carrier.Carrier.{Carrier}
 use Rattle.records.specs.Names.{noName, sameName, holdsName}
 use Rattle.records.specs.Maps.{isCode}
 use Rattle.records.specs.Ports.{noPort}
-use Rattle.records.specs.Carriers.{expected, atPort, inBuffer, isOpen, untied}
-use Rattle.rules.specs.State.{State, spotOf, portOf}
-use Rattle.rules.specs.Sound.{portInRange, spotInRange, statusInRange, carrierInRange, otherName, tieKept, tieHeld, placeAgrees, portAgrees, openAgrees}
-use Rattle.rules.proofs.Names.{name-is}
-use Rattle.image.specs.Image.{table, byteAt, bytesFrom, nameFrom, portStart}
+use Rattle.records.specs.Carriers.{expected, atPort, isOpen, untied}
+use Rattle.rules.specs.State.{State, portOf}
+use Rattle.rules.specs.Sound.{portInRange, spotInRange, statusInRange, carrierInRange, placeAgrees, portAgrees, openAgrees}
+use Rattle.image.specs.Image.{table}
 use Rattle.image.proofs.Table.{length-table, getD-table}
 use Rattle.image.proofs.Laid.{split}
-use Rattle.soundness.specs.Passes.{portOn, recordOn, isZero, namedBy, fieldsFit, seatFits, otherPort, latest, portKey, tieFits, portFits}
+use Rattle.soundness.specs.Passes.{portOn, recordOn, namedBy, fieldsFit, seatFits, otherPort, latest, portKey, tieFits, portFits}
 use Rattle.soundness.proofs.Turns.{two-on}
 use Rattle.soundness.proofs.Latest.{latest-low, later-others, latest-has}
 

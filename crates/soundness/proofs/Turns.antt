@@ -5,15 +5,13 @@ use native.Mathlib.Omega.{arith}
 use native.Mathlib.Numerals.{add-one}
 use mathlib.Core.Path.{_≡_, refl, ap, ap₂, sym, _∙_}
 use mathlib.Core.Bool.{Bool, true, false, cond, _&&_}
-use mathlib.Core.List.{List, [], _∷_}
-use lib.ListN.{length, getD, take, replicate}
+use mathlib.Core.List.{_∷_}
+use lib.ListN.{take, replicate}
 use lib.Dec.{eqb, ltb}
 use borrow.Author.Tests.{ltb-false}
 use Rattle.lists.specs.Lists.{every, everyTwo, howMany, sameList}
 use Rattle.lists.proofs.Bools.{and-l, and-r, and-i}
-use Rattle.lists.proofs.Tests.{every-at}
 use Rattle.image.specs.Image.{table}
-use Rattle.image.proofs.Table.{length-table, getD-table}
 
 swap : (a b c : Bool) → (a && (b && c)) ≡ (b && (a && c))
 swap true b c = refl

@@ -1,10 +1,10 @@
 -- Zero bytes after what is used are ports and records that are zero.
 use Prim.Native.Nat.{ℕ, _+_, _-_, _*_, _/_, _%_, _<_, _≤_}
 use native.Mathlib.Omega.{arith}
-use mathlib.Core.Path.{_≡_, refl, ap, sym, _∙_}
+use mathlib.Core.Path.{_≡_, ap, sym, _∙_}
 use mathlib.Core.Bool.{Bool, true}
 use mathlib.Core.List.{List, [], _++_, _∷_}
-use lib.ListN.{length, getD, drop, replicate, length-drop}
+use lib.ListN.{length, getD, drop, length-drop}
 use lib.Seq.{getD-drop}
 use borrow.Author.Tests.{eq-eqb, eqb-true}
 use Rattle.lists.specs.Lists.{every, sameList}

@@ -1,20 +1,19 @@
 -- What the code finds is whether the tool is sound.
-use Prim.Native.Nat.{ℕ, zero, suc, _+_, _-_, _*_, _<_, _≤_}
+use Prim.Native.Nat.{ℕ, zero, suc, _+_, _-_, _*_, _≤_}
 use native.Mathlib.Omega.{arith}
-use mathlib.Core.Path.{_≡_, refl, ap, ap₂, sym, _∙_}
+use mathlib.Core.Path.{_≡_, refl, ap, sym, _∙_}
 use mathlib.Core.Bool.{Bool, true, false, _&&_}
 use mathlib.Core.List.{List}
 use lib.ListN.{length, take, drop}
 use lib.Dec.{leb}
 use borrow.Author.Tests.{le-leb, leb-true}
-use Rattle.lists.specs.Lists.{every, everyTwo, howMany, between}
+use Rattle.lists.specs.Lists.{every, everyTwo, between}
 use Rattle.lists.proofs.Bools.{clash, and-l, and-r, and-i, same-test}
-use Rattle.records.specs.Carriers.{expected}
-use Rattle.rules.specs.State.{State, stateOf}
-use Rattle.rules.specs.Sound.{inRange, otherName, otherSpot, sound, zeroPort, zeroCarrier, unusedZero, soundTool}
+use Rattle.rules.specs.State.{State}
+use Rattle.rules.specs.Sound.{inRange, otherName, sound, zeroPort, zeroCarrier, unusedZero, soundTool}
 use Rattle.image.specs.Image.{table, byteAt, bytesFrom, toolFrom}
 use Rattle.image.proofs.Table.{length-table}
-use Rattle.soundness.specs.Passes.{isZero, portOn, recordOn, namedBy, fieldsFit, seatFits, otherPort, latest, portKey, tieFits, portFits, seatsFit}
+use Rattle.soundness.specs.Passes.{isZero, portOn, recordOn, namedBy, fieldsFit, latest, portKey, tieFits, portFits, seatsFit}
 use Rattle.soundness.proofs.Turns.{take-table}
 use Rattle.soundness.proofs.Unused.{unused-ports, unused-carriers}
 use Rattle.soundness.proofs.Judged.{stateOn}

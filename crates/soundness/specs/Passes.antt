@@ -2,16 +2,15 @@
 use Prim.Native.Nat.{ℕ, zero, suc, _+_, _-_, _*_, _/_, _%_, _^_}
 use mathlib.Core.Bool.{Bool, not, cond, _&&_, _||_}
 use mathlib.Core.List.{List}
-use lib.ListN.{getD}
 use lib.Dec.{eqb, leb}
-use Rattle.lists.specs.Lists.{every, everyTwo, howMany, between}
+use Rattle.lists.specs.Lists.{every, everyTwo, howMany}
 use Rattle.records.specs.declared.port.Port.{Port}
 use Rattle.records.specs.declared.carrier.Carrier.{Carrier}
 use Rattle.records.specs.Names.{graphic, sameName, holdsName}
 use Rattle.records.specs.Maps.{isCode}
-use Rattle.records.specs.Carriers.{expected, inBuffer, isOpen}
-use Rattle.rules.specs.Sound.{portAgrees, spotInRange, statusInRange, placeAgrees, openAgrees, otherName, otherSpot}
-use Rattle.image.specs.Image.{table, byteAt, bytesFrom, nameFrom, portFrom, carrierFrom, portStart, carrierStart}
+use Rattle.records.specs.Carriers.{expected, isOpen}
+use Rattle.rules.specs.Sound.{portAgrees, spotInRange, statusInRange, placeAgrees, openAgrees, otherSpot}
+use Rattle.image.specs.Image.{table, byteAt, bytesFrom, portFrom, carrierFrom, portStart, carrierStart}
 
 -- the port and the record at a position
 abbrev pub portOn : List ℕ → ℕ → Port

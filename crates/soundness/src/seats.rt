@@ -1,7 +1,6 @@
 // Where the carriers are: places, buffer places and ties.
 ghost use mathlib.Core.Path.{_≡_};
 ghost use Prim.Native.Nat.{_≤_, _<_};
-ghost use Rattle.image.specs.Image.{carrierStart};
 ghost use Rattle.soundness.specs.Passes.{recordOn, portOn, seatFits, tieFits, seatsFit};
 ghost use Rattle.rules.specs.Sound.{openAgrees};
 use crate::bytes::same;

@@ -1,4 +1,3 @@
-use borrow.Author.Needs.{needs}
 use native.Mathlib.Omega.{arith}
 use Prim.Native.Nat.{ℕ, _+_, _≤_, _-_}
 use mathlib.Core.Path.{_≡_, ap, sym, _∙_}
@@ -8,7 +7,6 @@ use lib.ListN.{length, getD, length-set}
 use Rattle.lists.specs.Lists.{between}
 use Rattle.image.specs.Image.{table, byteAt}
 use Rattle.image.proofs.Table.{is-table}
-use Rattle.soundness.specs.Passes.{nameLane}
 use Rattle.soundness.proofs.Gathered.{partly, still, none-new, one-new, all-new}
 use Rattle.soundness.proofs.lanes.field_lanes.Statement.{statement}
 use Rattle.soundness.proofs.lanes.field_lanes.Tie as tie

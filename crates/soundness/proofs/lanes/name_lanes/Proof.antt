@@ -1,11 +1,9 @@
-use borrow.Author.Needs.{needs}
 use native.Mathlib.Omega.{arith}
 use Prim.Native.Nat.{ℕ, _+_, _≤_, _-_}
 use mathlib.Core.Path.{_≡_, ap, sym, _∙_}
 use mathlib.Core.Bool.{Bool, false, _&&_}
 use mathlib.Core.List.{List}
 use lib.ListN.{length, getD, length-set}
-use Rattle.lists.specs.Lists.{between}
 use Rattle.image.specs.Image.{table, byteAt}
 use Rattle.image.proofs.Table.{is-table}
 use Rattle.soundness.specs.Passes.{nameLane}

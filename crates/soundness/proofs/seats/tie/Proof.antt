@@ -1,5 +1,4 @@
 use borrow.Author.Needs.{needs}
-use native.Mathlib.Omega.{arith}
 use borrow.Author.Tests.{eq-eqb, ne-eqb}
 use Rattle.soundness.specs.Passes.{tieFits}
 use Rattle.soundness.proofs.seats.tie.Statement.{statement}
