@@ -1,0 +1,138 @@
+#!/usr/bin/env python3
+"""Changes one operator, constant or condition at a time in the code and in the definitions, checks, and says what noticed.
+
+  mutants.py list [--all]     the sample as one-line diffs (--all: every mutant), checking nothing
+  mutants.py run              try the sample; --resume takes up a run that was stopped
+  mutants.py table            what the last run found, as tables
+"""
+
+import argparse
+import json
+import os
+import queue
+import sys
+import threading
+
+sys.path.insert(0, os.path.dirname(os.path.abspath(__file__)))
+
+from sample import Sources, drawn, shares  # noqa: E402
+from scratch import Scratch  # noqa: E402
+from tables import tables  # noqa: E402
+from try_one import try_mutant  # noqa: E402
+
+SEED = "870312"
+REPO = os.path.dirname(os.path.dirname(os.path.abspath(__file__)))
+
+
+def arguments():
+    parser = argparse.ArgumentParser(description=__doc__, formatter_class=argparse.RawDescriptionHelpFormatter)
+    parser.add_argument("command", choices=["list", "run", "table"])
+    parser.add_argument("--all", action="store_true", help="list: every mutant; table: every result")
+    parser.add_argument("--code", type=int, default=110, metavar="N", help="at least N code mutants (110)")
+    parser.add_argument("--definitions", type=int, default=55, metavar="N", help="at least N definition mutants (55)")
+    parser.add_argument("--least", type=int, default=3, metavar="N", help="at least N of each crate (3)")
+    parser.add_argument("--crate", help="this crate alone")
+    parser.add_argument("--resume", action="store_true", help="keep what the log has")
+    parser.add_argument("--jobs", type=int, default=1, metavar="N", help="workers, each with its own copy (1)")
+    parser.add_argument("--limit", type=int, default=600, metavar="S", help="seconds for a check (600)")
+    parser.add_argument("--inputs", type=int, default=100000, metavar="N", help="inputs of a comparison (100000)")
+    parser.add_argument("--work", default=os.path.join(REPO, "target", "mutants"), help="copies and log (target/mutants)")
+    return parser.parse_args()
+
+
+def plan(sources, options):
+    """For each layer and crate: how many are wanted, and the mutants in the order in which they are drawn."""
+    found = []
+    for layer, total in (("code", options.code), ("definition", options.definitions)):
+        mutants = [mutant for mutant in sources.mutants() if mutant.layer == layer]
+        for crate, share in shares(mutants, total, options.least).items():
+            if options.crate in (None, crate):
+                found.append((share, drawn([mutant for mutant in mutants if mutant.crate == crate], SEED)))
+    return found
+
+
+def show_list(sources, options):
+    for share, mutants in plan(sources, options):
+        for mutant in mutants if options.all else mutants[:share]:
+            print(f"{mutant.layer:10} {mutant.kind:10} {mutant.diff(sources.texts[mutant.file])}")
+
+
+class Run:
+    """The workers' common part: the log, and what is left to try."""
+
+    def __init__(self, sources, options):
+        self.sources, self.options = sources, options
+        self.path = os.path.join(options.work, "log.jsonl")
+        self.lock, self.left, self.failed = threading.Lock(), queue.Queue(), []
+        self.done = self.read_log() if options.resume else {}
+        os.makedirs(os.path.join(options.work, "said"), exist_ok=True)
+        if not self.done:
+            with open(self.path, "w", encoding="utf-8") as file:
+                file.write(json.dumps({"sources": sources.digest(), "seed": SEED}) + "\n")
+        for share, mutants in plan(sources, options):
+            self.left.put((share, mutants))
+
+    def read_log(self):
+        with open(self.path, encoding="utf-8") as file:
+            head, *lines = [json.loads(line) for line in file]
+        if head != {"sources": self.sources.digest(), "seed": SEED}:
+            raise SystemExit("mutants: the log is of other sources; run without --resume")
+        return {line["key"]: line for line in lines}
+
+    def try_crate(self, scratch, share, mutants):
+        """Until `share` mutants count; one that doesn't compile doesn't count, and the next is drawn in its place."""
+        counted = 0
+        for mutant in mutants:
+            if counted == share:
+                return
+            result = self.done.get(mutant.key) or self.try_and_log(scratch, mutant)
+            counted += result["verdict"] != "uncompiled"
+
+    def try_and_log(self, scratch, mutant):
+        name = "".join(c if c.isalnum() else "-" for c in f"{mutant.file}-{mutant.line}-{mutant.column}-{mutant.new}")[:120]
+        log = os.path.join(self.options.work, "said", name + ".txt")
+        result = try_mutant(scratch, self.sources, mutant, log, self.options.inputs)
+        with self.lock:
+            with open(self.path, "a", encoding="utf-8") as file:
+                file.write(json.dumps(result, ensure_ascii=False) + "\n")
+            print(f"{result['verdict']:10} {result['seconds']:6.1f} s  {result['diff']}")
+            print(f"{'':21}{', '.join(result['noticed'])}  {result['first'][:150]}", flush=True)
+        return result
+
+    def work(self, number):
+        try:
+            scratch = Scratch(REPO, os.path.join(self.options.work, f"worker{number}"), self.options.limit)
+            scratch.prepare(lambda words: print(f"as it is, {words}", flush=True))
+            while True:
+                self.try_crate(scratch, *self.left.get_nowait())
+        except queue.Empty:
+            pass
+        except BaseException as error:
+            self.failed.append(error)
+
+
+def run(sources, options):
+    os.nice(10)
+    os.makedirs(options.work, exist_ok=True)
+    whole = Run(sources, options)
+    workers = [threading.Thread(target=whole.work, args=(number,)) for number in range(options.jobs)]
+    for worker in workers:
+        worker.start()
+    for worker in workers:
+        worker.join()
+    for error in whole.failed:
+        raise error
+
+
+def main():
+    options = arguments()
+    sources = Sources(REPO)
+    if options.command == "list":
+        return show_list(sources, options)
+    if options.command == "run":
+        run(sources, options)
+    return tables(os.path.join(options.work, "log.jsonl"), os.path.join(REPO, "mutants", "explained.txt"), options.all)
+
+
+if __name__ == "__main__":
+    sys.exit(main())

@@ -1,0 +1,132 @@
+"""What a run found, as tables in Markdown, and the one line that sums it up."""
+
+import json
+import re
+
+from operators import KINDS
+
+THEOREMS = ["the promises", "the twelve rows", "the reachable answers", "the laws"]
+NUMBER = re.compile(r"^(\S+?):\d+: ")
+
+
+def tables(log, explained, every):
+    """Prints all; 1 where a mutant was accepted that nobody has explained, or had no verdict."""
+    with open(log, encoding="utf-8") as file:
+        results = [json.loads(line) for line in file][1:]
+    why = explanations(explained)
+    for result in results:
+        result["why"] = why.get(named(result["diff"]), "")
+    code = [result for result in results if result["layer"] == "code"]
+    definitions = [result for result in results if result["layer"] == "definition"]
+    code_table(code)
+    definition_table(definitions)
+    kind_table(code, definitions)
+    left = listed("Accepted", [result for result in results if result["verdict"] == "accepted"])
+    left += listed("No verdict in time", [result for result in results if result["verdict"] == "late"])
+    if every:
+        all_of_them(results)
+    print(summary(code, definitions))
+    return 1 if left else 0
+
+
+def explanations(path):
+    """A mutant as its diff, without the line's number; below it, indented, why it is accepted."""
+    found, name = {}, None
+    with open(path, encoding="utf-8") as file:
+        for line in file:
+            if line.startswith("#") or not line.strip():
+                continue
+            if line.startswith(" "):
+                found[name] = (found[name] + " " + line.strip()).strip()
+            else:
+                name = line.rstrip("\n")
+                found[name] = ""
+    return found
+
+
+def named(diff):
+    return NUMBER.sub(r"\1: ", diff)
+
+
+def count(results, **wanted):
+    return sum(all(result.get(name) == value for name, value in wanted.items()) for result in results)
+
+
+def counted(results):
+    return [result for result in results if result["verdict"] != "uncompiled"]
+
+
+def crates(results):
+    return sorted({result["crate"] for result in results})
+
+
+def row(*cells):
+    print("| " + " | ".join(str(cell) for cell in cells) + " |")
+
+
+def head(*cells):
+    print()
+    row(*cells)
+    print("|" + "---|" * len(cells))
+
+
+def code_table(code):
+    head("Code of", "Mutants", "Refused by the prover", "Accepted: equal", "Accepted: unexplained", "No verdict", "Did not compile", "Seconds each")
+    for crate in [*crates(code), "all"]:
+        mine = [result for result in code if crate in ("all", result["crate"])]
+        accepted = [result for result in mine if result["verdict"] == "accepted"]
+        equal = sum(bool(result["why"]) and not result["noticed"] for result in accepted)
+        row(crate, len(counted(mine)), count(mine, verdict="refused"), equal, len(accepted) - equal, count(mine, verdict="late"),
+            count(mine, verdict="uncompiled"), seconds(mine))
+
+
+def definition_table(definitions):
+    head("Definitions of", "Mutants", *(f"Refused by {name}" for name in THEOREMS), "Refused by the code's proofs alone", "Accepted: explained",
+         "Accepted: unexplained", "No verdict", "Did not compile", "Seconds each")
+    for crate in [*crates(definitions), "all"]:
+        mine = [result for result in definitions if crate in ("all", result["crate"])]
+        accepted = [result for result in mine if result["verdict"] == "accepted"]
+        explained = sum(bool(result["why"]) for result in accepted)
+        row(crate, len(counted(mine)), *(sum(name in result["noticed"] for result in mine) for name in THEOREMS),
+            sum(result["noticed"] == ["the code's proofs"] for result in mine), explained, len(accepted) - explained,
+            count(mine, verdict="late"), count(mine, verdict="uncompiled"), seconds(mine))
+
+
+def kind_table(code, definitions):
+    head("What was changed", "Code: mutants", "refused", "Definitions: mutants", "refused")
+    for kind in KINDS:
+        cells = []
+        for results in (code, definitions):
+            mine = [result for result in counted(results) if result["kind"] == kind]
+            cells += [len(mine), count(mine, verdict="refused")]
+        row(kind, *cells)
+
+
+def seconds(results):
+    return f"{sum(result['seconds'] for result in results) / len(results):.0f}" if results else ""
+
+
+def listed(title, results):
+    """Each with what was compared and why it is accepted; returns how many nobody has explained."""
+    if results:
+        print(f"\n{title}:\n")
+    for result in results:
+        compared = f" Compared: {result['compared']}." if result.get("compared") else ""
+        print(f"- `{result['diff']}`{compared} {result['why'] or '**Not explained.**'}")
+    return sum(not result["why"] or bool(result["noticed"]) for result in results)
+
+
+def all_of_them(results):
+    head("Mutant", "Verdict", "Noticed by", "First")
+    for result in results:
+        first = result["first"].replace("|", "\\|")[:120]
+        row(f"`{result['diff']}`".replace("|", "\\|"), result["verdict"], ", ".join(result["noticed"]), first)
+
+
+def summary(code, definitions):
+    theorems = sum(bool(set(THEOREMS) & set(result["noticed"])) for result in definitions)
+    proofs = sum(result["noticed"] == ["the code's proofs"] for result in definitions)
+    equal = sum(result["verdict"] == "accepted" and bool(result["why"]) and not result["noticed"] for result in code)
+    explained = sum(result["verdict"] == "accepted" and bool(result["why"]) for result in definitions)
+    return (f"\ncode: {len(counted(code))} mutants, {count(code, verdict='refused')} refused, {equal} equal; "
+            f"definitions: {len(counted(definitions))} mutants, {theorems} by the promises, {proofs} by the code's proofs, {explained} explained")

@@ -1,0 +1,118 @@
+"""What may be changed, and what may not. Run: python3 -m unittest discover mutants"""
+
+import os
+import sys
+import unittest
+
+sys.path.insert(0, os.path.dirname(os.path.abspath(__file__)))
+
+import antt  # noqa: E402
+import rattle  # noqa: E402
+from code_operators import Body  # noqa: E402
+from definition_operators import Right  # noqa: E402
+from operators import Mutant  # noqa: E402
+from said import heard, noticed_by  # noqa: E402
+from sample import drawn  # noqa: E402
+
+CODE = """// A comment with 1 + 2.
+ghost use lib.Dec.{ltb};
+pub struct Pod { pub here: u8, pub there: u8, pub open: bool }
+
+fn least(a: u8, b: u8) -> u8
+    ensures { λ r. ⌜ r ≤ 7 + b ⌝ }
+{
+    if a < b { a } else { b }
+}
+
+pub fn told(p: Pod, m: &[u8; 9]) -> bool
+    requires { ⌜ 1 ≤ 2 ⌝ }
+{
+    let c = p;
+    p.open & (least(c.here, 0x0F) != 3) & !p.open
+}
+"""
+DEFINITIONS = """-- A comment with 1 + 2.
+use mathlib.Core.Bool.{Bool, _&&_}
+use lib.Dec.{eqb, leb}
+
+pub record Pod : Type 0 where
+  pub here : ℕ
+  pub there : ℕ
+
+-- 3 of them
+abbrev pub told : Pod → ℕ → Bool
+told p n = eqb (p .here) 3
+    && leb 1 n
+"""
+
+
+def code_mutants():
+    module = rattle.read(CODE)
+    functions = {function.name: function.params for function in module.functions}
+    lines = CODE.split("\n")
+    return [m for f in module.functions for m in Body("crates/c/src/lib.rt", lines, f, module.structs, functions).mutants()]
+
+
+def definition_mutants():
+    module = antt.read(DEFINITIONS)
+    lines = DEFINITIONS.split("\n")
+    return [m for e in module.equations for m in Right("crates/c/specs/C.antt", lines, e, module, module.records, {}).mutants()]
+
+
+class Changes(unittest.TestCase):
+    def test_code(self):
+        self.assertEqual(
+            {(m.line, m.old, m.new) for m in code_mutants()},
+            {
+                (8, "<", "<="), (8, "a < b", "!(a < b)"),
+                (15, "p.open", "!p.open"), (15, "&", "|"), (15, "!=", "=="), (15, "!", ""), (15, "here", "there"),
+                (15, "c.here, 0x0F", "0x0F, c.here"), (15, "0x0F", "0x10"), (15, "0x0F", "0x0E"), (15, "3", "4"), (15, "3", "2"),
+            },
+        )
+
+    def test_definitions(self):
+        self.assertEqual(
+            {(m.line, m.old, m.new) for m in definition_mutants()},
+            {
+                (11, "eqb", "leb"), (11, "eqb (p .here) 3", "not (eqb (p .here) 3)"), (11, ".here", ".there"), (11, "3", "4"), (11, "3", "2"),
+                (12, "&&", "||"), (12, "leb", "ltb"), (12, "leb", "eqb"), (12, "leb 1 n", "not (leb 1 n)"), (12, "1", "2"), (12, "1", "0"),
+                (12, "1 n", "n 1"),
+            },
+        )
+
+    def test_a_name_that_the_change_needs_is_taken(self):
+        other = next(m for m in definition_mutants() if m.new == "||")
+        self.assertIn("use mathlib.Core.Bool.{Bool, _&&_, _||_}\n", other.changed(DEFINITIONS))
+
+    def test_a_moved_text_is_not_changed(self):
+        with self.assertRaises(ValueError):
+            Mutant("crates/c/src/lib.rt", 8, 1, "<", "<=", "comparison").changed(CODE)
+
+    def test_the_order_is_the_seeds(self):
+        orders = [[m.key for m in drawn(code_mutants(), seed)] for seed in ("1", "1", "2")]
+        self.assertEqual(orders[0], orders[1])
+        self.assertNotEqual(orders[0], orders[2])
+
+
+class Words(unittest.TestCase):
+    def test_a_refusal_names_the_first_cause(self):
+        text = (
+            "/r/crates/rules/proofs/Earned.antt:9:1: error: `told`: `trail` was not admitted (it has holes or so), so\n"
+            "/r/crates/rules/proofs/TwelveRows.antt:22:15: error: `twelve-rows`: expected\n"
+            "fn rules::a: not proved\nfn rules::b: not proved; it calls `rules::a`, which is not proved\nlogic=not-proved\n"
+        )
+        said = heard(text, "/r")
+        self.assertEqual((said.verdict, said.functions), ("refused", ["rules::a"]))
+        self.assertEqual(said.first, "crates/rules/proofs/TwelveRows.antt:22: `twelve-rows`: expected")
+        self.assertEqual(noticed_by("rules", said, {"rows"}), ["the twelve rows"])
+
+    def test_text_that_is_no_code_is_uncompiled(self):
+        self.assertEqual(heard("/r/crates/c/src/a.rt:1:2: error[unknown-name]: cannot find\n", "/r").verdict, "uncompiled")
+        self.assertEqual(heard("/r/crates/c/specs/A.antt:1:2: error: `a`: expected\nlogic=not-proved\n", "/r").verdict, "uncompiled")
+
+    def test_proved(self):
+        self.assertEqual(heard("logic=proved functions=3\n", "/r").verdict, "proved")
+
+
+if __name__ == "__main__":
+    unittest.main()

@@ -1,0 +1,45 @@
+"""One mutant: changed, checked, put back."""
+
+import os
+import time
+
+from said import noticed_by
+from scratch import standing_on
+
+
+def try_mutant(scratch, sources, mutant, log, inputs):
+    """What became of it, as a plain dictionary for the log."""
+    text = sources.texts[mutant.file]
+    with_code = {name.split("/")[1] for name, module in sources.code.items() if module.functions}
+    began = time.monotonic()
+    open(log, "w").close()
+    try:
+        scratch.with_change(mutant, text)
+        result = check_code(scratch, mutant, log, inputs) if mutant.layer == "code" else check_definition(scratch, mutant, log, with_code)
+    finally:
+        scratch.restore(mutant, text)
+    found = {"key": mutant.key, "diff": mutant.diff(text), "layer": mutant.layer, "crate": mutant.crate, "kind": mutant.kind}
+    return {**found, **result, "seconds": round(time.monotonic() - began, 1), "log": os.path.basename(log)}
+
+
+def check_code(scratch, mutant, log, inputs):
+    said = scratch.dev(mutant.crate, log)
+    if said.verdict != "proved":
+        return outcome(said, mutant.crate, ["the prover"] if said.verdict == "refused" else [])
+    status, text = scratch.run(["make", "compare", f"N={inputs}"], log)
+    same = {0: "no difference", None: "took too long"}.get(status, "a difference, or it could not run")
+    noticed = [] if status == 0 else ["the comparisons"]
+    return {"verdict": "accepted", "noticed": noticed, "where": "", "first": "", "compared": same}
+
+
+def check_definition(scratch, mutant, log, with_code):
+    """The definition's own crate first, then those above it, up to the first that refuses."""
+    for crate in standing_on(mutant.crate, scratch.deps):
+        said = scratch.dev(crate, log)
+        if said.verdict != "proved":
+            return outcome(said, crate, noticed_by(crate, said, with_code) if said.verdict == "refused" else [])
+    return {"verdict": "accepted", "noticed": [], "where": "", "first": ""}
+
+
+def outcome(said, crate, noticed):
+    return {"verdict": said.verdict, "noticed": noticed, "where": crate, "functions": said.functions, "first": said.first}
