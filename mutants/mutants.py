@@ -4,15 +4,18 @@
   mutants.py list [--all]     the sample as one-line diffs (--all: every mutant), checking nothing
   mutants.py run              try the sample; --resume takes up a run that was stopped
   mutants.py table            what the last run found, as tables
+  mutants.py try TEXT         try the mutants whose diff has the text, in the sample or not; the log stays as it is
 """
 
 import argparse
 import json
 import os
 import queue
+import signal
 import sys
 import threading
 
+sys.dont_write_bytecode = True
 sys.path.insert(0, os.path.dirname(os.path.abspath(__file__)))
 
 from sample import Sources, drawn, shares  # noqa: E402
@@ -26,7 +29,8 @@ REPO = os.path.dirname(os.path.dirname(os.path.abspath(__file__)))
 
 def arguments():
     parser = argparse.ArgumentParser(description=__doc__, formatter_class=argparse.RawDescriptionHelpFormatter)
-    parser.add_argument("command", choices=["list", "run", "table"])
+    parser.add_argument("command", choices=["list", "run", "table", "try"])
+    parser.add_argument("text", nargs="?", default="", help="try: a part of a mutant's diff, as list --all prints it")
     parser.add_argument("--all", action="store_true", help="list: every mutant; table: every result")
     parser.add_argument("--code", type=int, default=110, metavar="N", help="at least N code mutants (110)")
     parser.add_argument("--definitions", type=int, default=55, metavar="N", help="at least N definition mutants (55)")
@@ -64,7 +68,7 @@ class Run:
         self.sources, self.options = sources, options
         self.path = os.path.join(options.work, "log.jsonl")
         self.lock, self.left, self.failed = threading.Lock(), queue.Queue(), []
-        self.done = self.read_log() if options.resume else {}
+        self.done = self.read_log() if options.resume and os.path.exists(self.path) else {}
         os.makedirs(os.path.join(options.work, "said"), exist_ok=True)
         if not self.done:
             with open(self.path, "w", encoding="utf-8") as file:
@@ -95,8 +99,7 @@ class Run:
         with self.lock:
             with open(self.path, "a", encoding="utf-8") as file:
                 file.write(json.dumps(result, ensure_ascii=False) + "\n")
-            print(f"{result['verdict']:10} {result['seconds']:6.1f} s  {result['diff']}")
-            print(f"{'':21}{', '.join(result['noticed'])}  {result['first'][:150]}", flush=True)
+            show(result)
         return result
 
     def work(self, number):
@@ -111,11 +114,30 @@ class Run:
             self.failed.append(error)
 
 
+def show(result):
+    print(f"{result['verdict']:10} {result['seconds']:6.1f} s  {result['diff']}")
+    print(f"{'':21}{', '.join(result['noticed'])}  {result.get('compared', '')}{result['first'][:150]}", flush=True)
+
+
+def try_some(sources, options):
+    os.nice(10)
+    found = [mutant for mutant in sources.mutants() if options.text in mutant.diff(sources.texts[mutant.file])]
+    if not options.text or not found:
+        raise SystemExit("mutants: no mutant has that text; see `mutants.py list --all`")
+    folder = os.path.join(options.work, "tried")
+    os.makedirs(folder, exist_ok=True)
+    scratch = Scratch(REPO, folder, options.limit)
+    scratch.prepare(lambda words: print(f"as it is, {words}", flush=True))
+    for mutant in found:
+        show(try_mutant(scratch, sources, mutant, os.path.join(folder, "said.txt"), options.inputs))
+
+
 def run(sources, options):
     os.nice(10)
+    signal.signal(signal.SIGTERM, lambda *_: sys.exit("mutants: stopped; --resume takes it up again"))
     os.makedirs(options.work, exist_ok=True)
     whole = Run(sources, options)
-    workers = [threading.Thread(target=whole.work, args=(number,)) for number in range(options.jobs)]
+    workers = [threading.Thread(target=whole.work, args=(number,), daemon=True) for number in range(options.jobs)]
     for worker in workers:
         worker.start()
     for worker in workers:
@@ -129,6 +151,8 @@ def main():
     sources = Sources(REPO)
     if options.command == "list":
         return show_list(sources, options)
+    if options.command == "try":
+        return try_some(sources, options)
     if options.command == "run":
         run(sources, options)
     return tables(os.path.join(options.work, "log.jsonl"), os.path.join(REPO, "mutants", "explained.txt"), options.all)

@@ -6,14 +6,25 @@ from dataclasses import dataclass, field
 ERROR = re.compile(r"^(?P<file>\S+?):(?P<line>\d+):\d+: error(?P<code>\[[^\]]*\])?: (?P<words>.*)$", re.MULTILINE)
 # An error that only follows from another: what was cited had been refused already.
 FOLLOWS = "was not admitted (it has holes"
-UNPROVED = re.compile(r"^fn (\S+): not proved(?P<calls>; it calls.*)?$", re.MULTILINE)
+UNPROVED = re.compile(r"^fn (\S+): (?:not proved|no proof: expected[^;]*)(?P<calls>; it calls.*)?", re.MULTILINE)
+# Where a proof is made without a file, what is left is said in a note.
+LEFT = re.compile(r"^note: (?P<file>\S+?):(?P<line>\d+):\d+: (?P<words>it is not proved that .*)$", re.MULTILINE)
+UNCOVERED = "the borrow checker does not cover"
+# What could not be shown, by the name of the need that a proof answers; any other need is one of safety.
+NEEDS = [
+    ("what it ensures", re.compile(r"(returns(-\d+)?|.*-spec)$")),
+    ("its loop's invariant", re.compile(r"loop\d*-(holds|again)(-\d+)?$")),
+    ("that it ends", re.compile(r"loop\d*-less(-\d+)?$")),
+    ("what a callee requires", re.compile(r".*-requires(-\d+)?$")),
+]
 
 
 @dataclass
 class Said:
-    verdict: str  # proved, refused, uncompiled or late (no end within the time)
+    verdict: str  # proved, refused, uncompiled, or unclear (no end within the time, or no word that is known here)
     errors: list = field(default_factory=list)  # (file, line, words), those that follow from no other
     functions: list = field(default_factory=list)  # whose proof was refused for a reason of their own
+    need: str = ""  # of code: what could not be shown
 
     @property
     def first(self):
@@ -26,18 +37,27 @@ class Said:
 def heard(text, root):
     """Reads what `rt dev` printed. Text that is refused as text, before any proof, is uncompiled."""
     errors = []
-    for match in ERROR.finditer(text):
-        file = match["file"].removeprefix(root + "/")
+    for match in [*ERROR.finditer(text), *LEFT.finditer(text)]:
         if FOLLOWS not in match["words"]:
-            errors.append((file, int(match["line"]), match["words"]))
+            errors.append((match["file"].removeprefix(root + "/"), int(match["line"]), match["words"]))
     functions = [match[1] for match in UNPROVED.finditer(text) if not match["calls"]]
     if re.search(r"^logic=proved", text, re.MULTILINE):
         return Said("proved")
-    if not re.search(r"^logic=not-proved", text, re.MULTILINE):
-        return Said("uncompiled", errors)
     if any("/specs/" in file for file, _, _ in errors):
         return Said("uncompiled", errors)
-    return Said("refused", errors, functions)
+    if re.search(r"^logic=not-proved", text, re.MULTILINE):
+        return Said("refused", errors, functions, need_of(text, errors))
+    return Said("uncompiled" if any("/src/" in file for file, _, _ in errors) else "unclear", errors)
+
+
+def need_of(text, errors):
+    if UNCOVERED in text:
+        return "a form that is not covered"
+    names = re.findall(r"`([^`]*)`", errors[0][2]) if errors else []
+    if not names:
+        return "unknown"
+    name = names[-1] if errors[0][2].startswith("it is not proved") else names[0]
+    return next((need for need, pattern in NEEDS if pattern.match(name)), f"safety ({name})")
 
 
 def noticed_by(crate, said, with_code):

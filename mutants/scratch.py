@@ -1,5 +1,6 @@
 """A copy of the repository in which mutants are tried; what is proved there is kept, and put back after each mutant."""
 
+import atexit
 import os
 import shutil
 import signal
@@ -35,6 +36,9 @@ class Scratch:
         self.repo, self.limit = repo, limit
         self.root, self.pristine = os.path.join(folder, "tree"), os.path.join(folder, "pristine")
         self.deps = crates_in_order(repo)
+        self.above, self.touched = [], set()
+        self.process = None
+        atexit.register(self.stop)
 
     def prepare(self, say):
         """Copies the repository with what is proved of it, and sees that each crate is proved before anything is changed."""
@@ -53,35 +57,47 @@ class Scratch:
         shutil.copytree(os.path.join(self.root, "target"), self.pristine)
 
     def with_change(self, mutant, text):
+        self.above, self.touched = standing_on(mutant.crate, self.deps), set()
         with open(os.path.join(self.root, mutant.file), "w", encoding="utf-8") as file:
             file.write(mutant.changed(text))
 
     def restore(self, mutant, text):
         with open(os.path.join(self.root, mutant.file), "w", encoding="utf-8") as file:
             file.write(text)
-        for crate in standing_on(mutant.crate, self.deps):
+        for crate in self.touched:
             for name in (f"rlib/{crate}.rlib", f"stamp/{crate}", f"inc/{crate}"):
                 put_back(os.path.join(self.pristine, name), os.path.join(self.root, "target", name))
 
     def dev(self, crate, log):
+        self.touched |= {name for name in self.above if name == crate or name in self.deps[crate]}
         status, text = self.run(["rt", "dev", crate], log)
-        return Said("late") if status is None else heard(text, self.root)
+        return Said("unclear") if status is None else heard(text, self.root)
+
+    def compare(self, inputs, log):
+        """The archive with the change in it, beside the independent program."""
+        self.touched = set(self.above)
+        return self.run(["make", "compare", f"N={inputs}"], log)[0]
 
     def run(self, command, log):
         """The command's status and what it printed; no status where it took too long."""
-        process = subprocess.Popen(
+        self.process = subprocess.Popen(
             command, cwd=self.root, stdout=subprocess.PIPE, stderr=subprocess.STDOUT, text=True, errors="replace",
             start_new_session=True, env={**os.environ, "RT_CUT": "0", "RT_JOBS": "1"},
         )
         try:
-            text, _ = process.communicate(timeout=self.limit)
-            status = process.returncode
+            text, _ = self.process.communicate(timeout=self.limit)
+            status = self.process.returncode
         except subprocess.TimeoutExpired:
-            os.killpg(process.pid, signal.SIGKILL)
-            text, status = process.communicate()[0], None
+            self.stop()
+            text, status = self.process.communicate()[0], None
         with open(log, "a", encoding="utf-8") as file:
             file.write(f"$ {' '.join(command)}\n{text}\n")
         return status, text
+
+    def stop(self):
+        """Ends the command that runs, with all that it started."""
+        if self.process and self.process.poll() is None:
+            os.killpg(self.process.pid, signal.SIGKILL)
 
 
 def put_back(source, place):

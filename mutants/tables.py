@@ -6,6 +6,8 @@ import re
 from operators import KINDS
 
 THEOREMS = ["the promises", "the twelve rows", "the reachable answers", "the laws"]
+# What could not be shown of a function; safety: an index, a sum or a cast in its range.
+NEEDED = ["what it ensures", "its loop's invariant", "that it ends", "what a callee requires", "safety", "a form that is not covered"]
 NUMBER = re.compile(r"^(\S+?):\d+: ")
 
 
@@ -22,7 +24,7 @@ def tables(log, explained, every):
     definition_table(definitions)
     kind_table(code, definitions)
     left = listed("Accepted", [result for result in results if result["verdict"] == "accepted"])
-    left += listed("No verdict in time", [result for result in results if result["verdict"] == "late"])
+    left += listed("No verdict", [result for result in results if result["verdict"] == "unclear"])
     if every:
         all_of_them(results)
     print(summary(code, definitions))
@@ -71,12 +73,14 @@ def head(*cells):
 
 
 def code_table(code):
-    head("Code of", "Mutants", "Refused by the prover", "Accepted: equal", "Accepted: unexplained", "No verdict", "Did not compile", "Seconds each")
+    head("Code of", "Mutants", "Refused by the prover", *(f"for {need}" for need in NEEDED), "Accepted: equal", "Accepted: unexplained",
+         "No verdict", "Did not compile", "Seconds each")
     for crate in [*crates(code), "all"]:
         mine = [result for result in code if crate in ("all", result["crate"])]
         accepted = [result for result in mine if result["verdict"] == "accepted"]
         equal = sum(bool(result["why"]) and not result["noticed"] for result in accepted)
-        row(crate, len(counted(mine)), count(mine, verdict="refused"), equal, len(accepted) - equal, count(mine, verdict="late"),
+        needs = [sum(result.get("need", "").startswith(need) for result in mine) for need in NEEDED]
+        row(crate, len(counted(mine)), count(mine, verdict="refused"), *needs, equal, len(accepted) - equal, count(mine, verdict="unclear"),
             count(mine, verdict="uncompiled"), seconds(mine))
 
 
@@ -89,7 +93,7 @@ def definition_table(definitions):
         explained = sum(bool(result["why"]) for result in accepted)
         row(crate, len(counted(mine)), *(sum(name in result["noticed"] for result in mine) for name in THEOREMS),
             sum(result["noticed"] == ["the code's proofs"] for result in mine), explained, len(accepted) - explained,
-            count(mine, verdict="late"), count(mine, verdict="uncompiled"), seconds(mine))
+            count(mine, verdict="unclear"), count(mine, verdict="uncompiled"), seconds(mine))
 
 
 def kind_table(code, definitions):
@@ -117,10 +121,10 @@ def listed(title, results):
 
 
 def all_of_them(results):
-    head("Mutant", "Verdict", "Noticed by", "First")
+    head("Mutant", "Verdict", "Noticed by", "What could not be shown, and where first")
     for result in results:
-        first = result["first"].replace("|", "\\|")[:120]
-        row(f"`{result['diff']}`".replace("|", "\\|"), result["verdict"], ", ".join(result["noticed"]), first)
+        first = ", ".join(filter(None, [result.get("need") if result["layer"] == "code" else "", *result.get("functions", [])[:1], result["first"][:120]]))
+        row(f"`{result['diff']}`".replace("|", "\\|"), result["verdict"], ", ".join(result["noticed"]), first.replace("|", "\\|"))
 
 
 def summary(code, definitions):

@@ -4,6 +4,7 @@ import os
 import sys
 import unittest
 
+sys.dont_write_bytecode = True
 sys.path.insert(0, os.path.dirname(os.path.abspath(__file__)))
 
 import antt  # noqa: E402
@@ -110,8 +111,15 @@ class Words(unittest.TestCase):
         self.assertEqual(heard("/r/crates/c/src/a.rt:1:2: error[unknown-name]: cannot find\n", "/r").verdict, "uncompiled")
         self.assertEqual(heard("/r/crates/c/specs/A.antt:1:2: error: `a`: expected\nlogic=not-proved\n", "/r").verdict, "uncompiled")
 
-    def test_proved(self):
+    def test_what_could_not_be_shown(self):
+        note = "note: /r/crates/c/src/a.rt:4:1: it is not proved that what the function ensures holds when it returns (`returns`)\n"
+        index = "/r/crates/c/proofs/f/Proof.antt:9:1: error: `array-read-b`: `omega`: the goal does not follow\n"
+        for text, need in ((note, "what it ensures"), (index, "safety (array-read-b)")):
+            self.assertEqual(heard(text + "logic=not-proved\n", "/r").need, need)
+
+    def test_only_a_proof_is_proved(self):
         self.assertEqual(heard("logic=proved functions=3\n", "/r").verdict, "proved")
+        self.assertEqual(heard("rt: the toolchain failed\n", "/r").verdict, "unclear")
 
 
 if __name__ == "__main__":

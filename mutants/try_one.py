@@ -4,7 +4,6 @@ import os
 import time
 
 from said import noticed_by
-from scratch import standing_on
 
 
 def try_mutant(scratch, sources, mutant, log, inputs):
@@ -26,7 +25,7 @@ def check_code(scratch, mutant, log, inputs):
     said = scratch.dev(mutant.crate, log)
     if said.verdict != "proved":
         return outcome(said, mutant.crate, ["the prover"] if said.verdict == "refused" else [])
-    status, text = scratch.run(["make", "compare", f"N={inputs}"], log)
+    status = scratch.compare(inputs, log)
     same = {0: "no difference", None: "took too long"}.get(status, "a difference, or it could not run")
     noticed = [] if status == 0 else ["the comparisons"]
     return {"verdict": "accepted", "noticed": noticed, "where": "", "first": "", "compared": same}
@@ -34,7 +33,7 @@ def check_code(scratch, mutant, log, inputs):
 
 def check_definition(scratch, mutant, log, with_code):
     """The definition's own crate first, then those above it, up to the first that refuses."""
-    for crate in standing_on(mutant.crate, scratch.deps):
+    for crate in scratch.above:
         said = scratch.dev(crate, log)
         if said.verdict != "proved":
             return outcome(said, crate, noticed_by(crate, said, with_code) if said.verdict == "refused" else [])
@@ -42,4 +41,7 @@ def check_definition(scratch, mutant, log, with_code):
 
 
 def outcome(said, crate, noticed):
-    return {"verdict": said.verdict, "noticed": noticed, "where": crate, "functions": said.functions, "first": said.first}
+    return {
+        "verdict": said.verdict, "noticed": noticed, "where": crate, "functions": said.functions, "need": said.need,
+        "first": said.first,
+    }
