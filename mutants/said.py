@@ -9,6 +9,8 @@ FOLLOWS = "was not admitted (it has holes"
 UNPROVED = re.compile(r"^fn (\S+): (?:not proved|no proof: expected[^;]*)(?P<calls>; it calls.*)?", re.MULTILINE)
 # Where a proof is made without a file, what is left is said in a note.
 LEFT = re.compile(r"^note: (?P<file>\S+?):(?P<line>\d+):\d+: (?P<words>it is not proved that .*)$", re.MULTILINE)
+# A crate below is not proved, so that this one wasn't checked.
+BELOW = "rt: FAILED:"
 UNCOVERED = "the borrow checker does not cover"
 # What could not be shown, by the name of the need that a proof answers; any other need is one of safety.
 NEEDS = [
@@ -34,18 +36,21 @@ class Said:
         return f"{file}:{line}: {words}"
 
 
-def heard(text, root):
-    """Reads what `rt dev` printed. Text that is refused as text, before any proof, is uncompiled."""
+def heard(status, text, root):
+    """Reads what `rt dev` printed, and how it ended. Text that is refused as text, before any proof, is uncompiled."""
+    ends = re.findall(r"^logic=(proved|not-proved)", text, re.MULTILINE)  # crates below may stand before; the last is its own
+    if status == 0 and ends[-1:] == ["proved"]:
+        return Said("proved")
+    if status == 0 or BELOW in text:
+        return Said("unclear")
     errors = []
     for match in [*ERROR.finditer(text), *LEFT.finditer(text)]:
         if FOLLOWS not in match["words"]:
             errors.append((match["file"].removeprefix(root + "/"), int(match["line"]), match["words"]))
     functions = [match[1] for match in UNPROVED.finditer(text) if not match["calls"]]
-    if re.search(r"^logic=proved", text, re.MULTILINE):
-        return Said("proved")
     if any("/specs/" in file for file, _, _ in errors):
         return Said("uncompiled", errors)
-    if re.search(r"^logic=not-proved", text, re.MULTILINE):
+    if ends[-1:] == ["not-proved"]:
         return Said("refused", errors, functions, need_of(text, errors))
     return Said("uncompiled" if any("/src/" in file for file, _, _ in errors) else "unclear", errors)
 

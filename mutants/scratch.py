@@ -71,7 +71,7 @@ class Scratch:
     def dev(self, crate, log):
         self.touched |= {name for name in self.above if name == crate or name in self.deps[crate]}
         status, text = self.run(["rt", "dev", crate], log)
-        return Said("unclear") if status is None else heard(text, self.root)
+        return Said("unclear") if status is None else heard(status, text, self.root)
 
     def compare(self, inputs, log):
         """The archive with the change in it, beside the independent program."""

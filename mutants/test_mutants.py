@@ -102,24 +102,27 @@ class Words(unittest.TestCase):
             "/r/crates/rules/proofs/TwelveRows.antt:22:15: error: `twelve-rows`: expected\n"
             "fn rules::a: not proved\nfn rules::b: not proved; it calls `rules::a`, which is not proved\nlogic=not-proved\n"
         )
-        said = heard(text, "/r")
+        said = heard(1, text, "/r")
         self.assertEqual((said.verdict, said.functions), ("refused", ["rules::a"]))
         self.assertEqual(said.first, "crates/rules/proofs/TwelveRows.antt:22: `twelve-rows`: expected")
         self.assertEqual(noticed_by("rules", said, {"rows"}), ["the twelve rows"])
 
     def test_text_that_is_no_code_is_uncompiled(self):
-        self.assertEqual(heard("/r/crates/c/src/a.rt:1:2: error[unknown-name]: cannot find\n", "/r").verdict, "uncompiled")
-        self.assertEqual(heard("/r/crates/c/specs/A.antt:1:2: error: `a`: expected\nlogic=not-proved\n", "/r").verdict, "uncompiled")
+        self.assertEqual(heard(1, "/r/crates/c/src/a.rt:1:2: error[unknown-name]: cannot find\n", "/r").verdict, "uncompiled")
+        self.assertEqual(heard(1, "/r/crates/c/specs/A.antt:1:2: error: `a`: expected\nlogic=not-proved\n", "/r").verdict, "uncompiled")
 
     def test_what_could_not_be_shown(self):
         note = "note: /r/crates/c/src/a.rt:4:1: it is not proved that what the function ensures holds when it returns (`returns`)\n"
         index = "/r/crates/c/proofs/f/Proof.antt:9:1: error: `array-read-b`: `omega`: the goal does not follow\n"
         for text, need in ((note, "what it ensures"), (index, "safety (array-read-b)")):
-            self.assertEqual(heard(text + "logic=not-proved\n", "/r").need, need)
+            self.assertEqual(heard(1, text + "logic=not-proved\n", "/r").need, need)
 
     def test_only_a_proof_is_proved(self):
-        self.assertEqual(heard("logic=proved functions=3\n", "/r").verdict, "proved")
-        self.assertEqual(heard("rt: the toolchain failed\n", "/r").verdict, "unclear")
+        self.assertEqual(heard(0, "logic=proved functions=3\n", "/r").verdict, "proved")
+        self.assertEqual(heard(1, "logic=proved functions=3\nrt: lists proved (2 s)\nlogic=not-proved\n", "/r").verdict, "refused")
+        self.assertEqual(heard(1, "logic=proved functions=3\nlogic=not-proved\nrt: FAILED: records\n", "/r").verdict, "unclear")
+        self.assertEqual(heard(2, "rt: the toolchain failed\n", "/r").verdict, "unclear")
+        self.assertEqual(heard(0, "", "/r").verdict, "unclear")
 
 
 if __name__ == "__main__":
