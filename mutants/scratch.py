@@ -1,7 +1,9 @@
 """A copy of the repository in which mutants are tried; what is proved there is kept, and put back after each mutant."""
 
 import atexit
+import glob
 import os
+import re
 import shutil
 import signal
 import subprocess
@@ -36,7 +38,7 @@ class Scratch:
         self.repo, self.limit = repo, limit
         self.root, self.pristine = os.path.join(folder, "tree"), os.path.join(folder, "pristine")
         self.deps = crates_in_order(repo)
-        self.above, self.touched = [], set()
+        self.above, self.touched, self.lean = [], set(), ""
         self.process = None
         atexit.register(self.stop)
 
@@ -57,13 +59,15 @@ class Scratch:
         shutil.copytree(os.path.join(self.root, "target"), self.pristine)
 
     def with_change(self, mutant, text):
-        self.above, self.touched = standing_on(mutant.crate, self.deps), set()
+        self.above, self.touched, self.lean = standing_on(mutant.crate, self.deps), set(), ""
         with open(os.path.join(self.root, mutant.file), "w", encoding="utf-8") as file:
             file.write(mutant.changed(text))
 
     def restore(self, mutant, text):
         with open(os.path.join(self.root, mutant.file), "w", encoding="utf-8") as file:
             file.write(text)
+        if self.lean:
+            put_back(os.path.join(self.repo, "crates", self.lean, "proofs"), os.path.join(self.root, "crates", self.lean, "proofs"))
         for crate in self.touched:
             for name in (f"rlib/{crate}.rlib", f"stamp/{crate}", f"inc/{crate}"):
                 put_back(os.path.join(self.pristine, name), os.path.join(self.root, "target", name))
@@ -72,6 +76,22 @@ class Scratch:
         self.touched |= {name for name in self.above if name == crate or name in self.deps[crate]}
         status, text = self.run(["rt", "dev", crate], log)
         return Said("unclear") if status is None else heard(status, text, self.root)
+
+    def leave_out_theorems(self, crate, refused):
+        """Takes away the theorems of a crate that no crate above cites, so that those can be asked; not if one that is cited
+        is refused itself."""
+        folder = os.path.join(self.root, "crates", crate, "proofs")
+        names = [name.removesuffix(".antt") for name in os.listdir(folder) if name.endswith(".antt") and name != "Lib.antt"]
+        cited = cited_theorems(self.root, crate, self.above)
+        if cited & refused or not set(names) - cited:
+            return False
+        self.lean = crate
+        for name in set(names) - cited:
+            os.remove(os.path.join(folder, name + ".antt"))
+        kept = [line for line in lines_of(os.path.join(folder, "Lib.antt")) if line.split()[-1:] and line.split()[-1] in cited]
+        with open(os.path.join(folder, "Lib.antt"), "w", encoding="utf-8") as file:
+            file.write("".join(line + "\n" for line in kept))
+        return True
 
     def compare(self, inputs, log):
         """The archive with the change in it, beside the independent program."""
@@ -98,6 +118,28 @@ class Scratch:
         """Ends the command that runs, with all that it started."""
         if self.process and self.process.poll() is None:
             os.killpg(self.process.pid, signal.SIGKILL)
+
+
+def lines_of(path):
+    with open(path, encoding="utf-8") as file:
+        return file.read().split("\n")
+
+
+def cited_theorems(root, crate, above):
+    """The proof files of a crate that the crates above it cite, and those that these cite in turn."""
+    found, left = set(), set()
+    for other in above:
+        if other != crate:
+            for path in glob.glob(os.path.join(root, "crates", other, "**", "*"), recursive=True):
+                if path.endswith((".antt", ".rt")):
+                    left |= set(re.findall(rf"Rattle\.{crate}\.proofs\.(\w+)", "\n".join(lines_of(path))))
+    while left:
+        name = left.pop()
+        path = os.path.join(root, "crates", crate, "proofs", name + ".antt")
+        if name not in found and os.path.exists(path):
+            found.add(name)
+            left |= set(re.findall(rf"Rattle\.{crate}\.proofs\.(\w+)", "\n".join(lines_of(path))))
+    return found
 
 
 def put_back(source, place):

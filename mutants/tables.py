@@ -6,6 +6,9 @@ import re
 from operators import KINDS
 
 THEOREMS = ["the promises", "the twelve rows", "the reachable answers", "the laws"]
+CODE = "the code's proofs"
+# How a reason begins where a theorem is refused that still holds: its proof names the text that was changed.
+TEXT = "by its text:"
 # What could not be shown of a function; safety: an index, a sum or a cast in its range.
 NEEDED = ["what it ensures", "its loop's invariant", "that it ends", "what a callee requires", "safety", "a form that is not covered"]
 NUMBER = re.compile(r"^(\S+?):\d+: ")
@@ -24,6 +27,7 @@ def tables(log, explained, every):
     definition_table(definitions)
     kind_table(code, definitions)
     left = listed("Accepted", [result for result in results if result["verdict"] == "accepted"])
+    left += listed("Refused for a proof's text alone", [result for result in results if result["verdict"] == "refused" and result["why"].startswith(TEXT)])
     left += listed("No verdict", [result for result in results if result["verdict"] == "unclear"])
     if every:
         all_of_them(results)
@@ -85,15 +89,16 @@ def code_table(code):
 
 
 def definition_table(definitions):
-    head("Definitions of", "Mutants", *(f"Refused by {name}" for name in THEOREMS), "Refused by the code's proofs alone", "Accepted: explained",
+    """A mutant stands in each column of what refused it."""
+    head("Definitions of", "Mutants", *(f"Refused by {name}" for name in [*THEOREMS, CODE]), "For a proof's text alone", "Accepted: explained",
          "Accepted: unexplained", "No verdict", "Did not compile", "Seconds each")
     for crate in [*crates(definitions), "all"]:
         mine = [result for result in definitions if crate in ("all", result["crate"])]
         accepted = [result for result in mine if result["verdict"] == "accepted"]
         explained = sum(bool(result["why"]) for result in accepted)
-        row(crate, len(counted(mine)), *(sum(name in result["noticed"] for result in mine) for name in THEOREMS),
-            sum(result["noticed"] == ["the code's proofs"] for result in mine), explained, len(accepted) - explained,
-            count(mine, verdict="unclear"), count(mine, verdict="uncompiled"), seconds(mine))
+        text = sum(result["verdict"] == "refused" and result["why"].startswith(TEXT) for result in mine)
+        row(crate, len(counted(mine)), *(sum(name in result["noticed"] for result in mine) for name in [*THEOREMS, CODE]), text, explained,
+            len(accepted) - explained, count(mine, verdict="unclear"), count(mine, verdict="uncompiled"), seconds(mine))
 
 
 def kind_table(code, definitions):
@@ -116,8 +121,9 @@ def listed(title, results):
         print(f"\n{title}:\n")
     for result in results:
         compared = f" Compared: {result['compared']}." if result.get("compared") else ""
-        print(f"- `{result['diff']}`{compared} {result['why'] or '**Not explained.**'}")
-    return sum(not result["why"] or bool(result["noticed"]) for result in results)
+        noticed = f" Noticed by {', '.join(result['noticed'])}." if result["noticed"] else ""
+        print(f"- `{result['diff']}`{compared}{noticed} {result['why'] or '**Not explained.**'}")
+    return sum(not result["why"] or "the comparisons" in result["noticed"] for result in results)
 
 
 def all_of_them(results):
@@ -129,7 +135,7 @@ def all_of_them(results):
 
 def summary(code, definitions):
     theorems = sum(bool(set(THEOREMS) & set(result["noticed"])) for result in definitions)
-    proofs = sum(result["noticed"] == ["the code's proofs"] for result in definitions)
+    proofs = sum(result["noticed"] == [CODE] for result in definitions)
     equal = sum(result["verdict"] == "accepted" and bool(result["why"]) and not result["noticed"] for result in code)
     explained = sum(result["verdict"] == "accepted" and bool(result["why"]) for result in definitions)
     return (f"\ncode: {len(counted(code))} mutants, {count(code, verdict='refused')} refused, {equal} equal; "

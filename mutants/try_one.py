@@ -35,9 +35,24 @@ def check_definition(scratch, mutant, log, with_code):
     """The definition's own crate first, then those above it, up to the first that refuses."""
     for crate in scratch.above:
         said = scratch.dev(crate, log)
+        if said.verdict == "refused":
+            noticed = noticed_by(crate, said, with_code)
+            return outcome(said, crate, noticed + ask_the_code(scratch, crate, said, noticed, log, with_code))
         if said.verdict != "proved":
-            return outcome(said, crate, noticed_by(crate, said, with_code) if said.verdict == "refused" else [])
+            return outcome(said, crate, [])
     return {"verdict": "accepted", "noticed": [], "where": "", "first": ""}
+
+
+def ask_the_code(scratch, crate, said, noticed, log, with_code):
+    """A theorem that isn't computed may be refused for its text alone: then the code's proofs are asked too."""
+    refused = {os.path.basename(file).removesuffix(".antt") for file, _, _ in said.errors}
+    if noticed != ["the promises"] or not scratch.leave_out_theorems(crate, refused):
+        return []
+    for other in scratch.above[1:]:
+        verdict = scratch.dev(other, log).verdict
+        if verdict != "proved":
+            return ["the code's proofs"] if verdict == "refused" and other in with_code else []
+    return []
 
 
 def outcome(said, crate, noticed):
