@@ -41,7 +41,7 @@ def arguments():
     parser.add_argument("--limit", type=int, default=600, metavar="S", help="seconds for a check (600)")
     parser.add_argument("--inputs", type=int, default=100000, metavar="N", help="inputs of a comparison (100000)")
     parser.add_argument("--work", default=os.path.join(REPO, "target", "mutants"), help="copies and log (target/mutants)")
-    return parser.parse_args()
+    return parser.parse_intermixed_args()
 
 
 def plan(sources, options):
