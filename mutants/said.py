@@ -12,12 +12,13 @@ LEFT = re.compile(r"^note: (?P<file>\S+?):(?P<line>\d+):\d+: (?P<words>it is not
 # A crate below is not proved, so that this one wasn't checked.
 BELOW = "rt: FAILED:"
 UNCOVERED = "the borrow checker does not cover"
-# What could not be shown, by the name of the need that a proof answers; any other need is one of safety.
+# What could not be shown, by the name of the need that a proof answers.
 NEEDS = [
     ("what it ensures", re.compile(r"(returns(-\d+)?|.*-spec)$")),
     ("its loop's invariant", re.compile(r"loop\d*-(holds|again)(-\d+)?$")),
     ("that it ends", re.compile(r"loop\d*-less(-\d+)?$")),
     ("what a callee requires", re.compile(r".*-requires(-\d+)?$")),
+    ("safety", re.compile(r"(array|slice|shared|element|index|part|same|cast|add|sub|mul|div|rem|neg|shl|shr)-")),
 ]
 
 
@@ -62,7 +63,7 @@ def need_of(text, errors):
     if not names:
         return "unknown"
     name = names[-1] if errors[0][2].startswith("it is not proved") else names[0]
-    return next((need for need, pattern in NEEDS if pattern.match(name)), f"safety ({name})")
+    return next((need for need, pattern in NEEDS if pattern.match(name)), "a lemma of its proof")
 
 
 def noticed_by(crate, said, with_code):

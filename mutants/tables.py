@@ -10,7 +10,8 @@ CODE = "the code's proofs"
 # How a reason begins where a theorem is refused that still holds: its proof names the text that was changed.
 TEXT = "by its text:"
 # What could not be shown of a function; safety: an index, a sum or a cast in its range.
-NEEDED = ["what it ensures", "its loop's invariant", "that it ends", "what a callee requires", "safety", "a form that is not covered"]
+NEEDED = ["what it ensures", "its loop's invariant", "that it ends", "what a callee requires", "safety", "a lemma of its proof",
+          "a form that is not covered"]
 NUMBER = re.compile(r"^(\S+?):\d+: ")
 
 

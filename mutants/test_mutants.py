@@ -114,7 +114,7 @@ class Words(unittest.TestCase):
     def test_what_could_not_be_shown(self):
         note = "note: /r/crates/c/src/a.rt:4:1: it is not proved that what the function ensures holds when it returns (`returns`)\n"
         index = "/r/crates/c/proofs/f/Proof.antt:9:1: error: `array-read-b`: `omega`: the goal does not follow\n"
-        for text, need in ((note, "what it ensures"), (index, "safety (array-read-b)")):
+        for text, need in ((note, "what it ensures"), (index, "safety")):
             self.assertEqual(heard(1, text + "logic=not-proved\n", "/r").need, need)
 
     def test_only_a_proof_is_proved(self):

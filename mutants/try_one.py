@@ -24,7 +24,8 @@ def try_mutant(scratch, sources, mutant, log, inputs):
 def check_code(scratch, mutant, log, inputs):
     said = scratch.dev(mutant.crate, log)
     if said.verdict != "proved":
-        return outcome(said, mutant.crate, ["the prover"] if said.verdict == "refused" else [])
+        noticed = ["the prover"] if said.verdict == "refused" else []
+        return {**outcome(said, mutant.crate, noticed), "need": said.need}
     status = scratch.compare(inputs, log)
     same = {0: "no difference", None: "took too long"}.get(status, "a difference, or it could not run")
     noticed = [] if status == 0 else ["the comparisons"]
@@ -56,7 +57,4 @@ def ask_the_code(scratch, crate, said, noticed, log, with_code):
 
 
 def outcome(said, crate, noticed):
-    return {
-        "verdict": said.verdict, "noticed": noticed, "where": crate, "functions": said.functions, "need": said.need,
-        "first": said.first,
-    }
+    return {"verdict": said.verdict, "noticed": noticed, "where": crate, "functions": said.functions, "first": said.first}
