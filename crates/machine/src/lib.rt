@@ -1,4 +1,4 @@
-// Document 01's machine: set-up, soundness, and one input at a time.
+// Document 01's machine, in place: set-up, and one input at a time.
 pub mod apply;
 pub mod look;
 pub mod report;

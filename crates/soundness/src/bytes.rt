@@ -36,7 +36,7 @@ pub fn same(m: &[u8; 1891], o: usize, p: usize) -> bool
 }
 
 // A byte as a position in a table that has one for each byte.
-pub fn spot(b: u8) -> usize
+pub fn index(b: u8) -> usize
     ensures { λ r. ⌜ r ≡ b ⌝ }
     ensures { λ r. ⌜ r < 256 ⌝ }
 {

@@ -50,6 +50,7 @@ fn alone(m: &[u8; 1891], k: usize, n: usize) -> bool
     ok
 }
 
+// Where a mark is new, no earlier name is the same; else those up to the latest that left it are compared.
 pub fn differ(m: &[u8; 1891], n: usize) -> bool
     requires { ⌜ n ≤ 36 ⌝ }
     ensures { λ r. ⌜ r ≡ everyTwo otherName (table n (recordOn (now (m .entry)))) ⌝ }

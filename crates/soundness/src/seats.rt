@@ -3,13 +3,13 @@ ghost use mathlib.Core.Path.{_≡_};
 ghost use Prim.Native.Nat.{_≤_, _<_};
 ghost use Rattle.soundness.specs.Passes.{recordOn, portOn, seatFits, tieFits, seatsFit};
 ghost use Rattle.rules.specs.Sound.{openAgrees};
+use crate::bytes::index;
 use crate::bytes::same;
-use crate::bytes::spot;
 use crate::bytes::zeros;
 use records::choose::one_if;
 use records::choose::wide;
 
-// The record at o: its place, spot, port and lid fit each other.
+// The record at position k: its place, spot, port and lid fit each other.
 fn seat(m: &[u8; 1891], k: usize, used: u8, places: u8) -> bool
     requires { ⌜ k < 36 ⌝ }
     ensures { λ r. ⌜ r ≡ seatFits used places (recordOn (now (m .entry)) k) ⌝ }
@@ -49,6 +49,8 @@ fn tie(m: &[u8; 1891], p: usize, a: u8) -> bool
     }
 }
 
+// Each record leaves its position, from 1, in a table of spots and in one of ports: whether a spot or a port is another's is
+// one look, and a port finds its carrier.
 pub fn seats(m: &[u8; 1891], used: u8, places: u8, n: usize) -> bool
     requires { ⌜ n ≤ 36 ⌝ }
     ensures { λ r. ⌜ r ≡ seatsFit (now (m .entry)) used places n ⌝ }
@@ -61,8 +63,8 @@ pub fn seats(m: &[u8; 1891], used: u8, places: u8, n: usize) -> bool
     let mut expected = 0;
     let mut k = 0;
     while k < n {
-        let s = spot(m[91 + 50 * k + 17]);
-        let p = spot(m[91 + 50 * k + 18]);
+        let s = index(m[91 + 50 * k + 17]);
+        let p = index(m[91 + 50 * k + 18]);
         fit = seat(m, k, used, places) & fit;
         apart = ((s == 0) | (spots[s] == 0)) & apart;
         alone = ((p == 0) | (ports[p] == 0)) & alone;

@@ -15,7 +15,7 @@ use image::read::places;
 use image::read::used;
 use records::choose::wide;
 
-// The port at o, but for its tie.
+// The port at position k, but for its tie: that is looked at with the carriers.
 fn port(m: &[u8; 1891], k: usize) -> bool
     requires { ⌜ k < 4 ⌝ }
     ensures { λ r. ⌜ r ≡ portFits (portOn (now (m .entry)) k) ⌝ }
@@ -49,7 +49,7 @@ fn ports(m: &[u8; 1891], n: usize) -> bool
     ok
 }
 
-// Whether the bytes hold a sound tool.
+// Whether the bytes hold a sound tool. Every pass is made, also after one that fails: nearly every tool is sound.
 pub fn sound(m: &[u8; 1891]) -> bool
     ensures { λ r. ⌜ r ≡ soundTool (toolFrom (now (m .entry))) ⌝ }
 {

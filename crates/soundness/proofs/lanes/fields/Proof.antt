@@ -49,5 +49,6 @@ pub fields-spec : {M : Type 1} → statement M
 fields-spec =
     tie.close
     (tie.spec Inv-loop μ-loop (λ c. search needs) (λ c. search needs) (λ c. search needs) (λ c. search needs) (λ c. search needs)
-    (λ c. search needs) (λ c. search needs) (λ c. search needs) (λ c. search needs) (λ c. search needs) loop-holds (λ c. search needs) (λ c. omega arith) (λ c. omega arith) (λ c κs. (search needs, omega arith)) (λ c. omega arith)
+    (λ c. search needs) (λ c. search needs) (λ c. search needs) (λ c. search needs) (λ c. search needs) loop-holds (λ c. search needs)
+    (λ c. omega arith) (λ c. omega arith) (λ c κs. (search needs, omega arith)) (λ c. omega arith)
     (λ c. omega arith) loop-again (λ c. search needs) (λ c κs. search needs) returns)

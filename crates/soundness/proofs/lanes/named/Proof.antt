@@ -48,5 +48,6 @@ returns c =
 pub named-spec : {M : Type 1} → statement M
 named-spec =
     tie.close
-    (tie.spec Inv-loop μ-loop (λ c. search needs) (λ c. search needs) loop-holds (λ c. search needs) (λ c. omega arith) (λ c. omega arith) (λ c κs. (search needs, omega arith)) (λ c. omega arith)
+    (tie.spec Inv-loop μ-loop (λ c. search needs) (λ c. search needs) loop-holds (λ c. search needs) (λ c. omega arith) (λ c. omega arith)
+    (λ c κs. (search needs, omega arith)) (λ c. omega arith)
     (λ c. omega arith) loop-again (λ c. search needs) (λ c κs. search needs) returns)

@@ -64,7 +64,9 @@ returns c =
 pub alone-spec : {M : Type 1} → statement M
 alone-spec =
     tie.close
-    (tie.spec Inv-loop μ-loop (λ c. omega arith) (λ c. omega arith) (λ c κs. omega arith) (λ c. omega arith) (λ c. omega arith) (λ c. omega arith) (λ c κs. omega arith)
+    (tie.spec Inv-loop μ-loop (λ c. omega arith) (λ c. omega arith) (λ c κs. omega arith) (λ c. omega arith) (λ c. omega arith)
+    (λ c. omega arith) (λ c κs. omega arith)
     loop-holds (λ c. omega (arith, within c)) (λ c. omega (arith, within c)) (λ c κs. omega (arith, within c))
-    (λ c. omega (arith, within (c .before))) (λ c. omega (arith, within (c .before))) (λ c. omega (arith, within (c .before))) (λ c κs. omega (arith, within (c .before)))
+    (λ c. omega (arith, within (c .before))) (λ c. omega (arith, within (c .before))) (λ c. omega (arith, within (c .before)))
+    (λ c κs. omega (arith, within (c .before)))
     (λ c. omega (arith, within (c .before .before))) (λ c. omega (arith, within (c .before .before))) loop-again returns)

@@ -41,10 +41,10 @@ loop-again c =
     let a = b .before .args in
     let m = a .m .now in
     let k = b .loop .k in
-    let spot : q .spot .result ≡ spotKey m k = q .spot .ensures .0 in
-    let port : p .spot2 .result ≡ portKey m k = p .spot2 .ensures .0 in
-    let low : spotKey m k < 256 = rw spot at (q .spot .ensures .1) in
-    let near : portKey m k < 256 = rw port at (p .spot2 .ensures .1) in
+    let spot : q .index .result ≡ spotKey m k = q .index .ensures .0 in
+    let port : p .index2 .result ≡ portKey m k = p .index2 .ensures .0 in
+    let low : spotKey m k < 256 = rw spot at (q .index .ensures .1) in
+    let near : portKey m k < 256 = rw port at (p .index2 .ensures .1) in
     let one = c .one-if .ensures in (
       omega arith,
       omega arith,

@@ -73,7 +73,8 @@ sound-spec =
     tie.close
     (tie.spec (λ c κs. tt) (λ c κs. tt) (λ c κs. tt) (λ c κs. tt) (λ c κs. tt)
     (λ c. search needs) (λ c. search needs) (λ c. search needs) (λ c. let f = few c in omega arith) (λ c κs. let f = few c in omega arith)
-    (λ c. search needs) (λ c. search needs) (λ c. search needs) (λ c. let f = many (c .before) in omega arith) (λ c κs. let f = many (c .before) in omega arith)
+    (λ c. search needs) (λ c. search needs) (λ c. search needs) (λ c. let f = many (c .before) in omega arith)
+    (λ c κs. let f = many (c .before) in omega arith)
     (λ c κs. few (c .before .before)) (λ c κs. many (c .before .before .before)) (λ c κs. many (c .before .before .before .before))
     (λ c κs. many (c .before .before .before .before .before)) (λ c κs. many (c .before .before .before .before .before .before))
     returns returns-2)
