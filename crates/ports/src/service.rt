@@ -1,0 +1,106 @@
+// Rows 9 to 12: access mode, service status and reservations of a port.
+ghost use mathlib.Core.Path.{_≡_};
+ghost use Rattle.rules.specs.Row.{judge};
+ghost use Rattle.rules.specs.Service.{otherAccess, changeAccess, goesOut, comesIn, changeServiceStatus, reserveAtPort, cancelReservationAtPort};
+use effects::ask::on_port;
+use records::choose::first;
+use rules::row::Effect;
+use rules::row::Seen;
+
+fn other_access(x: Seen) -> bool
+    ensures { λ r. ⌜ r ≡ otherAccess x ⌝ }
+{
+    x.here.access != x.value
+}
+
+pub fn change_access_answer(x: Seen) -> u8
+    ensures { λ r. ⌜ r ≡ judge (changeAccess x .grounds) ⌝ }
+{
+    let q = x.here;
+    let a = first(
+        other_access(x) & (q.reserved == 1),
+        4,
+        first(other_access(x) & (q.movement != 0), 5, 0),
+    );
+    first(!x.isport, 1, first(!(x.value <= 1), 1, a))
+}
+
+pub fn change_access_effect(x: Seen) -> Effect
+    ensures { λ r. ⌜ r ≡ changeAccess x .effect ⌝ }
+{
+    let q = x.here;
+    on_port(x.count, x.port, q.with_access(x.value))
+}
+
+fn goes_out(x: Seen) -> bool
+    ensures { λ r. ⌜ r ≡ goesOut x ⌝ }
+{
+    (x.here.transfer != 0) & (x.value == 0)
+}
+
+fn comes_in(x: Seen) -> bool
+    ensures { λ r. ⌜ r ≡ comesIn x ⌝ }
+{
+    (x.here.transfer == 0) & (x.value == 1)
+}
+
+pub fn change_service_status_answer(x: Seen) -> u8
+    ensures { λ r. ⌜ r ≡ judge (changeServiceStatus x .grounds) ⌝ }
+{
+    let out = goes_out(x);
+    let a = first(
+        out & ((x.here.reserved == 1) | x.tied),
+        4,
+        first(out & (x.here.transfer != 1), 5, 0),
+    );
+    first(!x.isport, 1, first(!(x.value <= 1), 1, a))
+}
+
+pub fn change_service_status_effect(x: Seen) -> Effect
+    ensures { λ r. ⌜ r ≡ changeServiceStatus x .effect ⌝ }
+{
+    let q = x.here;
+    on_port(
+        x.count,
+        x.port,
+        q.with_transfer(first(goes_out(x), 0, first(comes_in(x), 1, q.transfer))),
+    )
+}
+
+pub fn reserve_at_port_answer(x: Seen) -> u8
+    ensures { λ r. ⌜ r ≡ judge (reserveAtPort x .grounds) ⌝ }
+{
+    first(
+        !x.isport,
+        1,
+        first(
+            (x.here.reserved == 1) | x.tied,
+            4,
+            first(x.here.transfer != 1, 5, 0),
+        ),
+    )
+}
+
+pub fn reserve_at_port_effect(x: Seen) -> Effect
+    ensures { λ r. ⌜ r ≡ reserveAtPort x .effect ⌝ }
+{
+    let q = x.here;
+    on_port(x.count, x.port, q.with_reserved(1))
+}
+
+pub fn cancel_reservation_at_port_answer(x: Seen) -> u8
+    ensures { λ r. ⌜ r ≡ judge (cancelReservationAtPort x .grounds) ⌝ }
+{
+    first(
+        !x.isport,
+        1,
+        first(x.tied, 4, first(x.here.reserved != 1, 5, 0)),
+    )
+}
+
+pub fn cancel_reservation_at_port_effect(x: Seen) -> Effect
+    ensures { λ r. ⌜ r ≡ cancelReservationAtPort x .effect ⌝ }
+{
+    let q = x.here;
+    on_port(x.count, x.port, q.with_reserved(0))
+}

@@ -1,7 +1,0 @@
-use Rattle.rules.specs.Row.{foundOrNew}
-use Rattle.rows.proofs.ask.found_or_new.Statement.{statement}
-use Rattle.rows.proofs.ask.found_or_new.Tie as tie
-
-pub found-or-new-spec : {M : Type 1} → statement M
-unfolding foundOrNew
-found-or-new-spec = tie.close (tie.spec (λ c κs. tt) (λ c κs. tt) (λ c. rw (c .either-carrier .ensures, c .before .fresh .ensures)))

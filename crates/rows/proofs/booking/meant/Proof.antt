@@ -1,7 +1,0 @@
-use Rattle.rules.specs.Booking.{meant}
-use Rattle.rows.proofs.booking.meant.Statement.{statement}
-use Rattle.rows.proofs.booking.meant.Tie as tie
-
-pub meant-spec : {M : Type 1} → statement M
-unfolding meant
-meant-spec = tie.close (tie.spec (λ c κs. tt) (λ c. rw (c .either-carrier .ensures)))

@@ -1,5 +1,0 @@
-use Rattle.rows.proofs.transfer.load_fail_answer.Statement.{statement}
-use Rattle.rows.proofs.transfer.load_fail_answer.Tie as tie
-
-pub load-fail-answer-spec : {M : Type 1} → statement M
-load-fail-answer-spec = tie.close (tie.spec (λ c κs. tt) (λ c κs. tt) (λ c. rw (c .first2 .ensures, c .before .first .ensures)))
