@@ -4,15 +4,12 @@ use native.Mathlib.Nat.{le-of-suc-le-suc}
 use native.Mathlib.Omega.{arith}
 use native.Mathlib.Numerals.{add-one}
 use mathlib.Core.Path.{_≡_, refl, ap, ap₂, sym, _∙_}
-use mathlib.Core.Bool.{Bool, true, false, cond}
+use mathlib.Core.Bool.{Bool, true}
 use mathlib.Core.List.{List, [], _∷_, _++_}
-use lib.ListN.{length, getD, set, take, drop, replicate, List·getD-eq-default}
-use lib.Dec.{ltb}
-use borrow.Author.Tests.{ltb-true, ltb-false}
+use lib.ListN.{length, getD, set, take, drop, replicate}
 use lib.Seq.{take-suc, take-all, length-take-le}
 use Rattle.lists.specs.Lists.{every, without, fill, shifted}
 use Rattle.lists.proofs.Bools.{and-l, and-r}
-use Rattle.lists.proofs.Loops.{getD-any}
 
 module _ {A : Type 0} where
   pub length-fill : (n : ℕ) (z : A) (l : List A) → length (fill n z l) ≡ n
@@ -29,15 +26,6 @@ module _ {A : Type 0} where
   getD-fill (suc n) z [] (suc k) h = getD-fill n z [] k (omega arith)
   getD-fill (suc n) z (x ∷ l) zero h = refl
   getD-fill (suc n) z (x ∷ l) (suc k) h = getD-fill n z l k (le-of-suc-le-suc h)
-
-  -- the same where the list may be longer than the table
-  pub fill-at : (n : ℕ) (z : A) (l : List A) (k : ℕ) → k < n → getD (fill n z l) k z ≡ getD l k z
-  unfolding fill
-  fill-at zero z l k h = absurd (omega arith)
-  fill-at (suc n) z [] zero h = refl
-  fill-at (suc n) z [] (suc k) h = fill-at n z [] k (le-of-suc-le-suc h)
-  fill-at (suc n) z (x ∷ l) zero h = refl
-  fill-at (suc n) z (x ∷ l) (suc k) h = fill-at n z l k (le-of-suc-le-suc h)
 
   pub fill-none : (n : ℕ) (z : A) → replicate n z ≡ fill n z []
   unfolding fill
@@ -102,25 +90,6 @@ module _ {A : Type 0} where
   shift-fill (suc n) z (y ∷ l) zero h f = snoc-fill n z l (le-of-suc-le-suc f)
   shift-fill (suc n) z (y ∷ l) (suc k) h f = ap (λ r. y ∷ r) (shift-fill n z l k (le-of-suc-le-suc h) (le-of-suc-le-suc f))
 
-  -- a loop's shift, one turn at a time
-  shift : (z : A) (l : List A) (j : ℕ) (d : A) → suc j < length l → shifted z (set l j (getD l (suc j) d)) (suc j) ≡ shifted z l j
-  unfolding shifted
-  shift z [] j d h = absurd (omega arith)
-  shift z (x ∷ []) j d h = absurd (omega arith)
-  shift z (x ∷ y ∷ ys) zero d h = refl
-  shift z (x ∷ y ∷ ys) (suc j) d h = ap (λ l. x ∷ l) (shift z (y ∷ ys) j d (le-of-suc-le-suc h))
-
-  pub shift-on : (z : A) (l : List A) (j : ℕ) (d : A) → j + 1 < length l → shifted z (set l j (getD l (j + 1) d)) (j + 1) ≡ shifted z l j
-  shift-on z l j d h = rw add-one (shift z l j d (rw (add-one j) at h))
-
-  pub last-shifted : (z : A) (l : List A) (j : ℕ) → length l ≡ suc j → shifted z l j ≡ set l j z
-  unfolding shifted
-  last-shifted z [] j h = absurd (omega arith)
-  last-shifted z (x ∷ []) zero h = refl
-  last-shifted z (x ∷ []) (suc j) h = absurd (omega arith)
-  last-shifted z (x ∷ y ∷ ys) zero h = absurd (omega arith)
-  last-shifted z (x ∷ y ∷ ys) (suc j) h = ap (λ l. x ∷ l) (last-shifted z (y ∷ ys) j (omega arith))
-
   pub without-out : (l : List A) (k : ℕ) → length l ≤ k → without k l ≡ l
   unfolding without
   without-out [] k h = refl
@@ -154,17 +123,3 @@ module _ {A : Type 0} where
   rest-fill f zero z (x ∷ l) e = refl
   rest-fill f (suc n) z [] e = rw e (rest-fill f n z [] e)
   rest-fill f (suc n) z (x ∷ l) e = rest-fill f n z l e
-
-  -- a position kept within the table, and z where it was outside
-  pub kept-within : (l : List A) (n : ℕ) (d z : A) (k : ℕ) → length l ≡ suc n
-      → cond (ltb k (suc n)) (getD l (cond (ltb k n) k n) d) z ≡ getD l k z
-  kept-within l n d z k h = go (ltb k (suc n)) refl (ltb k n) refl
-    where
-      go : (a : Bool) → ltb k (suc n) ≡ a → (b : Bool) → ltb k n ≡ b → cond a (getD l (cond b k n) d) z ≡ getD l k z
-      go false e b f = sym (List·getD-eq-default l z (let o = ltb-false k (suc n) e in omega arith))
-      go true e true f = getD-any l k d z (let o = ltb-true k (suc n) e in omega arith)
-      go true e false f =
-          let o = ltb-true k (suc n) e in
-          let p = ltb-false k n f in
-          let q : n ≡ k = omega arith in
-          ap (λ j. getD l j d) q ∙ getD-any l k d z (omega arith)

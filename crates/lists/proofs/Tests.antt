@@ -2,9 +2,9 @@
 use Prim.Native.Nat.{ℕ, zero, suc, _+_, _-_, _≤_, _<_, suc-le-suc}
 use native.Mathlib.Nat.{le-of-suc-le-suc}
 use native.Mathlib.Omega.{arith}
-use mathlib.Core.Path.{_≡_, refl, ap, ap₂, _∙_}
+use mathlib.Core.Path.{_≡_, refl, ap, ap₂}
 use mathlib.Core.Logic.{_≢_}
-use mathlib.Core.Bool.{Bool, true, false, cond, _&&_, _||_}
+use mathlib.Core.Bool.{Bool, true, false, cond, _||_}
 use mathlib.Core.List.{List, [], _∷_, _++_}
 use lib.ListN.{length, getD}
 use lib.Dec.{eqb}
@@ -95,32 +95,6 @@ module _ {A : Type 0} (f : A → A → Bool) where
   two-at (x ∷ l) d e i zero a b = absurd (omega arith)
   two-at (x ∷ l) d e zero (suc j) a b = every-at (f x) l d (and-l (every (f x) l) _ e) j (le-of-suc-le-suc b)
   two-at (x ∷ l) d e (suc i) (suc j) a b = two-at l d (and-r (every (f x) l) _ e) i j (le-of-suc-le-suc a) (le-of-suc-le-suc b)
-
--- two tests over one list are one test over it
-module _ {A : Type 0} where
-  pub every-and : (f g : A → Bool) (l : List A) → (every f l && every g l) ≡ every (λ x. f x && g x) l
-  unfolding every
-  every-and f g [] = refl
-  every-and f g (x ∷ l) = swap (f x) (every f l) (g x) (every g l) ∙ ap (λ b. (f x && g x) && b) (every-and f g l)
-    where
-      swap : (a b c d : Bool) → ((a && b) && (c && d)) ≡ ((a && c) && (b && d))
-      swap true true c d = refl
-      swap true false true d = refl
-      swap true false false d = refl
-      swap false b c d = refl
-
-  pub everyTwo-and : (f g : A → A → Bool) (l : List A) → (everyTwo f l && everyTwo g l) ≡ everyTwo (λ x y. f x y && g x y) l
-  unfolding everyTwo
-  everyTwo-and f g [] = refl
-  everyTwo-and f g (x ∷ l) =
-      swap (every (f x) l) (everyTwo f l) (every (g x) l) (everyTwo g l)
-      ∙ ap₂ _&&_ (every-and (f x) (g x) l) (everyTwo-and f g l)
-    where
-      swap : (a b c d : Bool) → ((a && b) && (c && d)) ≡ ((a && c) && (b && d))
-      swap true true c d = refl
-      swap true false true d = refl
-      swap true false false d = refl
-      swap false b c d = refl
 
 pub list-is : (a b : List ℕ) → sameList a b ≡ true → a ≡ b
 unfolding sameList

@@ -2,7 +2,6 @@
 ghost use mathlib.Core.Path.{_≡_};
 ghost use mathlib.Core.Bool.{cond};
 ghost use Prim.Native.Nat.{_≤_};
-ghost use lib.Dec.{ltb};
 
 // The first number if the test holds, else the second.
 pub fn first(b: bool, x: u8, y: u8) -> u8
@@ -22,14 +21,6 @@ pub fn one_if(b: bool) -> usize
     ensures { λ r. ⌜ r ≤ 1 ⌝ }
 {
     if b { 1 } else { 0 }
-}
-
-// The smaller: a position that stays within a table whose last is `top`.
-pub fn least(k: usize, top: usize) -> usize
-    ensures { λ r. ⌜ r ≡ cond (ltb k top) k top ⌝ }
-    ensures { λ r. ⌜ r ≤ top ⌝ }
-{
-    if k < top { k } else { top }
 }
 
 pub fn wide(x: u8) -> usize

@@ -1,6 +1,6 @@
 // A name: 1 to 16 bytes, each 0x21 to 0x7E, kept in sixteen bytes with zeros after it.
 ghost use mathlib.Core.Path.{_≡_};
-ghost use Rattle.records.specs.Names.{noName, sameName, holdsName, isName, inBytes};
+ghost use Rattle.records.specs.Names.{noName, sameName, isName, inBytes};
 
 #[repr(C)]
 pub struct Name {
@@ -24,22 +24,6 @@ impl Name {
             same = (self.bytes[i] == other.bytes[i]) & same;
         }
         same
-    }
-
-    // Graphic bytes, at least one, and zeros after them.
-    pub fn holds_name(self) -> bool
-        ensures { λ r. ⌜ r ≡ holdsName self ⌝ }
-    {
-        let mut next: u8 = 0;
-        let mut good = true;
-        let mut i = 16;
-        while 0 < i {
-            i -= 1;
-            let b = self.bytes[i];
-            good = (((b == 0) & (next == 0)) | ((0x21 <= b) & (b <= 0x7E))) & good;
-            next = b;
-        }
-        good & (next != 0)
     }
 }
 

@@ -117,10 +117,6 @@ module _ (s : State) (i : Input) (h : sound s ≡ true) where
   unfolding see
   stands-in e = ltb-true (x .stands) (length (s .carriers)) e
 
-  holds-in : x .tied ≡ true → x .holds < length (s .carriers)
-  unfolding see
-  holds-in e = ltb-true (x .holds) (length (s .carriers)) e
-
   -- a new record with the input's name
   new-apt : (p : ℕ) (q : Port) (c : Carrier) → Still s p q → x .known ≡ false → c .name ≡ x .name
       → Apt s (record { port = p; becomes = q; goes = length (s .carriers); changes = length (s .carriers); next = c; made = true })

@@ -1,7 +1,6 @@
 pub mod Only
 pub mod Lowest
 pub mod Names
-pub mod Past
 pub mod Holding
 pub mod SoundFacts
 pub mod TwelveRows
