@@ -10,7 +10,7 @@ ARCHIVE = target/staticlib/libhawsermole.a
 N = 100000
 CALLERS = 50000
 
-.PHONY: all run test bench library cross independent rust cli scenarios c sanitize compare diagrams pictures manual
+.PHONY: all run test users bench library cross independent rust cli scenarios c sanitize compare diagrams pictures manual
 
 all: target/hawsermole
 
@@ -78,6 +78,8 @@ manual:
 
 include tests/c/c.mk
 
-test: independent rust cli scenarios pictures c sanitize compare
-	rt fmt --check
-	rt ci
+# All that links the archive or reads beside it; `test` is this after the proofs.
+users: independent rust cli scenarios pictures c sanitize compare
+
+test:
+	tools/gate.sh
