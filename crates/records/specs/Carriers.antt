@@ -7,6 +7,7 @@ use lib.Dec.{eqb, leb}
 use Rattle.records.specs.Names.{noName}
 use Rattle.records.specs.declared.name.Name.{Name}
 use Rattle.records.specs.declared.carrier.Carrier.{Carrier}
+use Rattle.records.specs.Fields.{withPlace, withSpot, withPort, withOpened, withCancelled, withCameOut, withCodes, withId, withSlot}
 
 -- place: 0 expected, 1 at a port, 2 in the buffer; spot: the buffer place, or 0; port: the tie, or 0
 -- opened, cancelled, cameout: 0, 1; map: 25 codes; 0 is "no state" in each of the three below
@@ -96,176 +97,32 @@ newCarrier n p = record {
 
 -- at port p, tied to it
 abbrev pub placedAt : ℕ → Carrier → Carrier
-placedAt p c = record {
-  name = c .name;
-  place = 1;
-  spot = 0;
-  port = p;
-  opened = c .opened;
-  cancelled = c .cancelled;
-  cameout = c .cameout;
-  map = c .map;
-  id = c .id;
-  slot = c .slot;
-  accessing = c .accessing;
-}
-
--- ID status set
-abbrev pub withId : ℕ → Carrier → Carrier
-withId v c = record {
-  name = c .name;
-  place = c .place;
-  spot = c .spot;
-  port = c .port;
-  opened = c .opened;
-  cancelled = c .cancelled;
-  cameout = c .cameout;
-  map = c .map;
-  id = v;
-  slot = c .slot;
-  accessing = c .accessing;
-}
+placedAt p c = withPlace 1 (withSpot 0 (withPort p c))
 
 -- the host says yes: the ID that waits is OK, else the slot map is
 abbrev pub proceeded : Carrier → Carrier
-proceeded c = record {
-  name = c .name;
-  place = c .place;
-  spot = c .spot;
-  port = c .port;
-  opened = c .opened;
-  cancelled = c .cancelled;
-  cameout = c .cameout;
-  map = c .map;
-  id = cond (idWaits c) 3 (c .id);
-  slot = cond (idWaits c) (c .slot) 3;
-  accessing = c .accessing;
-}
+proceeded c = withId (cond (idWaits c) 3 (c .id)) (withSlot (cond (idWaits c) (c .slot) 3) c)
 
 -- the host says no: the ID that waits is FAILED, else the slot map that waits is
 abbrev pub judgedNo : Carrier → Carrier
-judgedNo c = record {
-  name = c .name;
-  place = c .place;
-  spot = c .spot;
-  port = c .port;
-  opened = c .opened;
-  cancelled = c .cancelled;
-  cameout = c .cameout;
-  map = c .map;
-  id = cond (idWaits c) 4 (c .id);
-  slot = cond (not (idWaits c) && slotWaits c) 4 (c .slot);
-  accessing = c .accessing;
-}
+judgedNo c = withId (cond (idWaits c) 4 (c .id)) (withSlot (cond (not (idWaits c) && slotWaits c) 4 (c .slot)) c)
 
 -- cancelled and closed; came-out goes off unless it stays
 abbrev pub cancelledBy : Bool → Carrier → Carrier
-cancelledBy stays c = record {
-  name = c .name;
-  place = c .place;
-  spot = c .spot;
-  port = c .port;
-  opened = 0;
-  cancelled = 1;
-  cameout = cond stays (c .cameout) 0;
-  map = c .map;
-  id = c .id;
-  slot = c .slot;
-  accessing = c .accessing;
-}
+cancelledBy stays c = withCancelled 1 (withOpened 0 (withCameOut (cond stays (c .cameout) 0) c))
 
 -- out of the buffer to port p
 abbrev pub takenOut : ℕ → Carrier → Carrier
-takenOut p c = record {
-  name = c .name;
-  place = 1;
-  spot = 0;
-  port = p;
-  opened = c .opened;
-  cancelled = c .cancelled;
-  cameout = 1;
-  map = c .map;
-  id = c .id;
-  slot = c .slot;
-  accessing = c .accessing;
-}
+takenOut p c = placedAt p (withCameOut 1 c)
 
 -- came-out goes off
 abbrev pub takenBack : Carrier → Carrier
-takenBack c = record {
-  name = c .name;
-  place = c .place;
-  spot = c .spot;
-  port = c .port;
-  opened = c .opened;
-  cancelled = c .cancelled;
-  cameout = 0;
-  map = c .map;
-  id = c .id;
-  slot = c .slot;
-  accessing = c .accessing;
-}
+takenBack c = withCameOut 0 c
 
 -- in the buffer place b, tied to no port
 abbrev pub movedIn : ℕ → Carrier → Carrier
-movedIn b c = record {
-  name = c .name;
-  place = 2;
-  spot = b;
-  port = 0;
-  opened = c .opened;
-  cancelled = c .cancelled;
-  cameout = c .cameout;
-  map = c .map;
-  id = c .id;
-  slot = c .slot;
-  accessing = c .accessing;
-}
-
--- open or closed
-abbrev pub withOpened : ℕ → Carrier → Carrier
-withOpened v c = record {
-  name = c .name;
-  place = c .place;
-  spot = c .spot;
-  port = c .port;
-  opened = v;
-  cancelled = c .cancelled;
-  cameout = c .cameout;
-  map = c .map;
-  id = c .id;
-  slot = c .slot;
-  accessing = c .accessing;
-}
+movedIn b c = withPlace 2 (withSpot b (withPort 0 c))
 
 -- the map kept, slot status set
 abbrev pub withMap : List ℕ → ℕ → Carrier → Carrier
-withMap m v c = record {
-  name = c .name;
-  place = c .place;
-  spot = c .spot;
-  port = c .port;
-  opened = c .opened;
-  cancelled = c .cancelled;
-  cameout = c .cameout;
-  map = m;
-  id = c .id;
-  slot = v;
-  accessing = c .accessing;
-}
-
--- accessing set
-abbrev pub withAccessing : ℕ → Carrier → Carrier
-withAccessing v c = record {
-  name = c .name;
-  place = c .place;
-  spot = c .spot;
-  port = c .port;
-  opened = c .opened;
-  cancelled = c .cancelled;
-  cameout = c .cameout;
-  map = c .map;
-  id = c .id;
-  slot = c .slot;
-  accessing = v;
-}
+withMap m v c = withCodes m (withSlot v c)

@@ -5,6 +5,7 @@ use lib.Dec.{eqb}
 use Rattle.records.specs.Names.{noName}
 use Rattle.records.specs.declared.name.Name.{Name}
 use Rattle.records.specs.declared.port.Port.{Port}
+use Rattle.records.specs.Fields.{withTransfer, withReserved, tiedTo, withMovement, withPod, withTag}
 
 -- transfer: 0 OUT OF SERVICE, 1 READY TO LOAD, 2 READY TO UNLOAD, 3 TRANSFER BLOCKED
 -- access: 0 MANUAL, 1 AUTO; reserved: 0, 1; tie: the tied carrier's name, or none
@@ -53,68 +54,52 @@ newPort = record { transfer = 1; access = 0; reserved = 0; tie = noName; movemen
 
 -- tied to a carrier, and reserved for it
 abbrev pub boundTo : Name → Port → Port
-boundTo n q = record { transfer = q .transfer; access = q .access; reserved = 1; tie = n; movement = q .movement; pod = q .pod; tag = q .tag }
+boundTo n q = tiedTo n (withReserved 1 q)
 
 -- tie and reservation go
 abbrev pub unbound : Port → Port
-unbound q = record { transfer = q .transfer; access = q .access; reserved = 0; tie = noName; movement = q .movement; pod = q .pod; tag = q .tag }
-
--- tied to a carrier
-abbrev pub tiedTo : Name → Port → Port
-tiedTo n q = record { transfer = q .transfer; access = q .access; reserved = q .reserved; tie = n; movement = q .movement; pod = q .pod; tag = q .tag }
+unbound q = tiedTo noName (withReserved 0 q)
 
 -- READY TO UNLOAD
 abbrev pub toUnload : Port → Port
-toUnload q = record { transfer = 2; access = q .access; reserved = q .reserved; tie = q .tie; movement = q .movement; pod = q .pod; tag = q .tag }
+toUnload q = withTransfer 2 q
 
 -- a carrier out of the buffer stands here, to be unloaded
 abbrev pub handedOut : Name → Port → Port
-handedOut n q = record { transfer = 2; access = q .access; reserved = q .reserved; tie = n; movement = q .movement; pod = 1; tag = 1 }
+handedOut n q = tiedTo n (withPod 1 (withTag 1 (toUnload q)))
 
 -- TRANSFER BLOCKED
 abbrev pub toBlocked : Port → Port
-toBlocked q = record { transfer = 3; access = q .access; reserved = q .reserved; tie = q .tie; movement = q .movement; pod = q .pod; tag = q .tag }
-
--- access mode set
-abbrev pub withAccess : ℕ → Port → Port
-withAccess v q = record { transfer = q .transfer; access = v; reserved = q .reserved; tie = q .tie; movement = q .movement; pod = q .pod; tag = q .tag }
-
--- transfer state set
-abbrev pub withTransfer : ℕ → Port → Port
-withTransfer v q = record { transfer = v; access = q .access; reserved = q .reserved; tie = q .tie; movement = q .movement; pod = q .pod; tag = q .tag }
-
--- reservation set
-abbrev pub withReserved : ℕ → Port → Port
-withReserved v q = record { transfer = q .transfer; access = q .access; reserved = v; tie = q .tie; movement = q .movement; pod = q .pod; tag = q .tag }
+toBlocked q = withTransfer 3 q
 
 -- BLOCKED, loading, the reservation ends, the tie stays
 abbrev pub startLoad : Port → Port
-startLoad q = record { transfer = 3; access = q .access; reserved = 0; tie = q .tie; movement = 1; pod = q .pod; tag = q .tag }
+startLoad q = toBlocked (withMovement 1 (withReserved 0 q))
 
 -- idle, pod present, tag unread
 abbrev pub loaded : Port → Port
-loaded q = record { transfer = q .transfer; access = q .access; reserved = q .reserved; tie = q .tie; movement = 0; pod = 1; tag = 0 }
+loaded q = withMovement 0 (withPod 1 (withTag 0 q))
 
 -- idle, READY TO LOAD
 abbrev pub notLoaded : Port → Port
-notLoaded q = record { transfer = 1; access = q .access; reserved = q .reserved; tie = q .tie; movement = 0; pod = q .pod; tag = q .tag }
+notLoaded q = withMovement 0 (withTransfer 1 q)
 
 -- tag read, tied to a carrier
 abbrev pub tagRead : Name → Port → Port
-tagRead n q = record { transfer = q .transfer; access = q .access; reserved = q .reserved; tie = n; movement = q .movement; pod = q .pod; tag = 1 }
+tagRead n q = withTag 1 (tiedTo n q)
 
 -- tag failed
 abbrev pub tagNotRead : Port → Port
-tagNotRead q = record { transfer = q .transfer; access = q .access; reserved = q .reserved; tie = q .tie; movement = q .movement; pod = q .pod; tag = 2 }
+tagNotRead q = withTag 2 q
 
 -- idle, no pod, tag unread, no tie, READY TO LOAD
 abbrev pub emptied : Port → Port
-emptied q = record { transfer = 1; access = q .access; reserved = q .reserved; tie = noName; movement = 0; pod = 0; tag = 0 }
+emptied q = withMovement 0 (withPod 0 (withTag 0 (tiedTo noName (withTransfer 1 q))))
 
 -- BLOCKED, unloading
 abbrev pub startUnload : Port → Port
-startUnload q = record { transfer = 3; access = q .access; reserved = q .reserved; tie = q .tie; movement = 2; pod = q .pod; tag = q .tag }
+startUnload q = toBlocked (withMovement 2 q)
 
 -- idle, READY TO UNLOAD
 abbrev pub notUnloaded : Port → Port
-notUnloaded q = record { transfer = 2; access = q .access; reserved = q .reserved; tie = q .tie; movement = 0; pod = q .pod; tag = q .tag }
+notUnloaded q = withMovement 0 (toUnload q)

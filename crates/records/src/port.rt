@@ -1,6 +1,7 @@
 // A port record answers each input with the port that follows it.
 ghost use mathlib.Core.Path.{_≡_};
-ghost use Rattle.records.specs.Ports.{noPort, newPort, boundTo, unbound, tiedTo, toUnload, handedOut, toBlocked, withAccess, withTransfer, withReserved, startLoad, loaded, notLoaded, tagRead, tagNotRead, emptied, startUnload, notUnloaded};
+ghost use Rattle.records.specs.Ports.{noPort, newPort, boundTo, unbound, toUnload, handedOut, toBlocked, startLoad, loaded, notLoaded, tagRead, tagNotRead, emptied, startUnload, notUnloaded};
+ghost use Rattle.records.specs.Fields.{tiedTo, withAccess, withTransfer, withReserved};
 use crate::name::Name;
 
 // transfer: 0 OUT OF SERVICE, 1 READY TO LOAD, 2 READY TO UNLOAD, 3 TRANSFER BLOCKED; access: 0 MANUAL, 1 AUTO;

@@ -13,7 +13,8 @@ use Rattle.records.specs.declared.port.Port.{Port}
 use Rattle.records.specs.declared.carrier.Carrier.{Carrier}
 use Rattle.records.specs.Names.{sameName}
 use Rattle.records.specs.Ports.{noPort, toUnload}
-use Rattle.records.specs.Carriers.{noCarrier, atPort, untied, placedAt, withId, proceeded, judgedNo}
+use Rattle.records.specs.Carriers.{noCarrier, atPort, untied, placedAt, proceeded, judgedNo}
+use Rattle.records.specs.Fields.{withId}
 use Rattle.rules.specs.declared.row.Seen.{Seen}
 use Rattle.rules.specs.declared.row.Effect.{Effect}
 use Rattle.rules.specs.State.{State, spotOf, portOf, recordOf}

@@ -13,7 +13,8 @@ use Rattle.records.specs.declared.port.Port.{Port}
 use Rattle.records.specs.declared.carrier.Carrier.{Carrier}
 use Rattle.records.specs.Names.{noName, sameName}
 use Rattle.records.specs.Ports.{reserved, idle, blocked, tagRead, tagNotRead, emptied}
-use Rattle.records.specs.Carriers.{noCarrier, newCarrier, inBuffer, untied, isOpen, inAccess, placedAt, withId, movedIn}
+use Rattle.records.specs.Carriers.{noCarrier, newCarrier, inBuffer, untied, isOpen, inAccess, placedAt, movedIn}
+use Rattle.records.specs.Fields.{withId}
 use Rattle.rules.specs.declared.row.Seen.{Seen}
 use Rattle.rules.specs.declared.row.Effect.{Effect}
 use Rattle.rules.specs.State.{State, portOf, recordOf}

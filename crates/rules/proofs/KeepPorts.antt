@@ -11,7 +11,8 @@ use Rattle.lists.proofs.Bools.{clash, and-l, and-r, or-other, not-true}
 use Rattle.records.specs.declared.port.Port.{Port}
 use Rattle.records.specs.declared.name.Name.{Name}
 use Rattle.records.specs.Names.{noName, sameName, holdsName}
-use Rattle.records.specs.Ports.{readyToLoad, unbound, withTransfer, emptied}
+use Rattle.records.specs.Ports.{readyToLoad, unbound, emptied}
+use Rattle.records.specs.Fields.{withTransfer}
 use Rattle.records.specs.Carriers.{expected, untied}
 use Rattle.rules.specs.declared.row.Seen.{Seen}
 use Rattle.rules.specs.State.{State, portOf, recordOf}

@@ -10,7 +10,8 @@ use Rattle.lists.proofs.Bools.{clash, and-l, and-r, or-other}
 use Rattle.records.specs.declared.port.Port.{Port}
 use Rattle.records.specs.declared.carrier.Carrier.{Carrier}
 use Rattle.records.specs.Ports.{noPort, idle, blocked, toBlocked, toUnload}
-use Rattle.records.specs.Carriers.{atPort, inBuffer, isOpen, notAccessed, withOpened, withMap, withAccessing, takenBack}
+use Rattle.records.specs.Carriers.{atPort, inBuffer, isOpen, notAccessed, withMap, takenBack}
+use Rattle.records.specs.Fields.{withOpened, withAccessing}
 use Rattle.rules.specs.declared.row.Seen.{Seen}
 use Rattle.rules.specs.State.{State}
 use Rattle.rules.specs.Seen.{Input, see}

@@ -10,8 +10,9 @@ use Rattle.records.specs.declared.name.Name.{Name}
 use Rattle.records.specs.declared.port.Port.{Port}
 use Rattle.records.specs.declared.carrier.Carrier.{Carrier}
 use Rattle.records.specs.Names.{noName, sameName, holdsName}
-use Rattle.records.specs.Ports.{noPort, idle, hasPod, tagFailed, readyToUnload, tiedTo, toUnload}
-use Rattle.records.specs.Carriers.{atPort, inAccess, idWaits, slotWaits, untied, placedAt, withId, proceeded, judgedNo, cancelledBy}
+use Rattle.records.specs.Ports.{noPort, idle, hasPod, tagFailed, readyToUnload, toUnload}
+use Rattle.records.specs.Carriers.{atPort, inAccess, idWaits, slotWaits, untied, placedAt, proceeded, judgedNo, cancelledBy}
+use Rattle.records.specs.Fields.{tiedTo, withId}
 use Rattle.rules.specs.declared.row.Seen.{Seen}
 use Rattle.rules.specs.declared.row.Effect.{Effect}
 use Rattle.rules.specs.State.{State}

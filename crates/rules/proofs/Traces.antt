@@ -14,7 +14,8 @@ use Rattle.records.specs.declared.port.Port.{Port}
 use Rattle.records.specs.declared.carrier.Carrier.{Carrier}
 use Rattle.records.specs.Names.{inBytes, sameName}
 use Rattle.records.specs.Ports.{readyToUnload}
-use Rattle.records.specs.Carriers.{noCarrier, newCarrier, isOpen, isCancelled, atPort, idWaits, idOk, slotWaits, slotOk, slotFailed, placedAt, withId, proceeded, judgedNo, cancelledBy}
+use Rattle.records.specs.Carriers.{noCarrier, newCarrier, isOpen, isCancelled, atPort, idWaits, idOk, slotWaits, slotOk, slotFailed, placedAt, proceeded, judgedNo, cancelledBy}
+use Rattle.records.specs.Fields.{withId}
 use Rattle.rules.specs.declared.row.Seen.{Seen}
 use Rattle.rules.specs.declared.row.Effect.{Effect}
 use Rattle.rules.specs.State.{State, recordOf}

@@ -5,7 +5,8 @@ use mathlib.Core.List.{[], _∷_}
 use lib.Dec.{eqb}
 use Rattle.records.specs.declared.port.Port.{Port}
 use Rattle.records.specs.Ports.{hasPod, idle, tagUnread, tagRead, tagNotRead}
-use Rattle.records.specs.Carriers.{noCarrier, untied, placedAt, withId}
+use Rattle.records.specs.Carriers.{noCarrier, untied, placedAt}
+use Rattle.records.specs.Fields.{withId}
 use Rattle.rules.specs.declared.row.Seen.{Seen}
 use Rattle.rules.specs.Row.{Row, when, unless, onBoth, otherPort, placed, foundOrNew}
 

@@ -2,7 +2,8 @@
 use mathlib.Core.Bool.{Bool, not, cond, _&&_}
 use mathlib.Core.List.{[], _∷_}
 use lib.Dec.{eqb}
-use Rattle.records.specs.Ports.{outOfService, readyToLoad, reserved, idle, withAccess, withTransfer, withReserved}
+use Rattle.records.specs.Ports.{outOfService, readyToLoad, reserved, idle}
+use Rattle.records.specs.Fields.{withAccess, withTransfer, withReserved}
 use Rattle.rules.specs.declared.row.Seen.{Seen}
 use Rattle.rules.specs.Row.{Row, when, unless, onPort, isChoice, reservedOrTied}
 

@@ -5,8 +5,9 @@ use mathlib.Core.List.{[], _∷_}
 use lib.Dec.{eqb}
 use Rattle.records.specs.declared.port.Port.{Port}
 use Rattle.records.specs.declared.carrier.Carrier.{Carrier}
-use Rattle.records.specs.Ports.{noPort, readyToUnload, idle, tiedTo, toUnload}
-use Rattle.records.specs.Carriers.{atPort, untied, idWaits, idOk, slotWaits, inAccess, placedAt, withId, proceeded, judgedNo, cancelledBy}
+use Rattle.records.specs.Ports.{noPort, readyToUnload, idle, toUnload}
+use Rattle.records.specs.Carriers.{atPort, untied, idWaits, idOk, slotWaits, inAccess, placedAt, proceeded, judgedNo, cancelledBy}
+use Rattle.records.specs.Fields.{tiedTo, withId}
 use Rattle.rules.specs.declared.row.Seen.{Seen}
 use Rattle.rules.specs.Row.{Row, unless, isPortOrNone, otherPort, placed, unknownPod, foundOrNew}
 
