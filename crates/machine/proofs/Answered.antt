@@ -18,10 +18,10 @@ use Rattle.rules.proofs.Lowest.{row-first-is-lowest}
 use Rattle.rules.proofs.Holding.{port-held, record-held, tool-sound}
 use Rattle.rules.proofs.SoundFacts.{few-ports, distinct}
 use Rattle.rules.proofs.Apt.{apt}
-use Rattle.machine.specs.Apply.{applied}
-use Rattle.machine.specs.Told.{noteAll, touched}
-use Rattle.machine.proofs.Bridge.{bridge}
-use Rattle.machine.proofs.Notes.{all-noted}
+use Rattle.parts.specs.Apply.{applied}
+use Rattle.parts.specs.Told.{noteAll, touched}
+use Rattle.parts.proofs.Bridge.{bridge}
+use Rattle.parts.proofs.Notes.{all-noted}
 use Rattle.machine.proofs.Differ.{differences-touched}
 
 -- what a row sees doesn't depend on the input's number

@@ -25,7 +25,7 @@ use Rattle.rules.specs.Reports.{change, transferChange, accessChange, reservati
 use Rattle.rules.proofs.Names.{name-same, name-sym}
 use Rattle.rules.proofs.SoundFacts.{Distinct}
 use Rattle.rules.proofs.Apt.{Apt}
-use Rattle.machine.specs.Told.{portTouched, recordTouched, touched}
+use Rattle.parts.specs.Told.{portTouched, recordTouched, touched}
 use Rattle.machine.proofs.Each.{not-reported, unchanged, all-still, one-port, each-none, each-one, each-without-none, each-without-one, each-append}
 
 module _ (m : ℕ) (f : Carrier → ℕ) (zeroed : f noCarrier ≡ 0) (s : State) (act : Effect) (uniq : Distinct (s .carriers)) (apt : Apt s act) where

@@ -23,7 +23,7 @@ use Rattle.rules.specs.Outcome.{rowIn, answerIn, stateAfter}
 use Rattle.rules.proofs.Lowest.{row-first-is-lowest}
 use Rattle.rules.proofs.SoundFacts.{few-ports, distinct}
 use Rattle.rules.proofs.Apt.{apt}
-use Rattle.machine.specs.Told.{portTouched, recordTouched, touched}
+use Rattle.parts.specs.Told.{portTouched, recordTouched, touched}
 use Rattle.machine.proofs.Each.{unchanged}
 use Rattle.machine.proofs.Differ.{differences-touched}
 

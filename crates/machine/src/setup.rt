@@ -6,7 +6,7 @@ ghost use Rattle.lists.specs.Lists.{fill};
 ghost use Rattle.records.specs.Ports.{noPort, newPort};
 ghost use Rattle.rules.specs.State.{noTool, setUp};
 ghost use Rattle.image.specs.Image.{toolFrom};
-ghost use Rattle.machine.specs.Apply.{toPorts};
+ghost use Rattle.parts.specs.Apply.{toPorts};
 use image::write::clear;
 use image::write::put;
 use image::write::put_port;

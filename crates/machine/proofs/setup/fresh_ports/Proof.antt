@@ -9,8 +9,8 @@ use Rattle.lists.proofs.Tables.{fill-none, fill-repeat}
 use Rattle.records.specs.Ports.{noPort, newPort}
 use Rattle.rules.specs.State.{noTool}
 use Rattle.image.specs.Image.{toolFrom}
-use Rattle.machine.specs.Apply.{toPorts}
-use Rattle.machine.proofs.InPlace.{port-put}
+use Rattle.parts.specs.Apply.{toPorts}
+use Rattle.parts.proofs.InPlace.{port-put}
 use Rattle.machine.proofs.setup.fresh_ports.Statement.{statement}
 use Rattle.machine.proofs.setup.fresh_ports.Tie as tie
 

@@ -14,8 +14,8 @@ use Rattle.rules.specs.declared.tool.Tool.{Tool}
 use Rattle.rules.specs.declared.tool.Setup.{Setup}
 use Rattle.rules.specs.State.{noTool, inTool, setUp}
 use Rattle.image.specs.Image.{toolFrom}
-use Rattle.machine.specs.Apply.{toPorts}
-use Rattle.machine.proofs.InPlace.{sizes-put}
+use Rattle.parts.specs.Apply.{toPorts}
+use Rattle.parts.proofs.InPlace.{sizes-put}
 use Rattle.machine.proofs.setup.setup.Statement.{statement}
 use Rattle.machine.proofs.setup.setup.Tie as tie
 

@@ -17,8 +17,8 @@ use Rattle.rules.specs.Outcome.{refused, rowIn, outcomeIn}
 use Rattle.rules.proofs.Holding.{sound-held}
 use Rattle.image.specs.Image.{toolFrom}
 use Rattle.image.proofs.Laid.{ports-long, carriers-long}
-use Rattle.machine.specs.Apply.{applied}
-use Rattle.machine.specs.Told.{noteAll, touched}
+use Rattle.parts.specs.Apply.{applied}
+use Rattle.parts.specs.Told.{noteAll, touched}
 use Rattle.machine.proofs.Answered.{toldBy, see-number, accepted-is, refused-is}
 use Rattle.machine.proofs.step.step_sound.Statement.{statement}
 use Rattle.machine.proofs.step.step_sound.Tie as tie

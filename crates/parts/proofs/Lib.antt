@@ -1,0 +1,4 @@
+pub mod Bridge
+pub mod Tables
+pub mod Notes
+pub mod InPlace
