@@ -51,9 +51,12 @@ pub extern "C" fn hm_step(
     name: &[u8],
     codes: &[u8],
 ) -> u32
-    ensures { λ r. ⌜ toolFrom (now (tool .exit)) ≡ outcome (toolFrom (now (tool .entry))) (inputOf number port value (now (name .entry)) (now (codes .entry))) .tool ⌝ }
-    ensures { λ r. ⌜ reportsFrom (now (reports .exit)) ≡ outcome (toolFrom (now (tool .entry))) (inputOf number port value (now (name .entry)) (now (codes .entry))) .reports ⌝ }
-    ensures { λ r. ⌜ r ≡ outcome (toolFrom (now (tool .entry))) (inputOf number port value (now (name .entry)) (now (codes .entry))) .answer ⌝ }
+    ensures { λ r. ⌜ toolFrom (now (tool .exit)) ≡ outcome (toolFrom (now (tool .entry)))
+        (inputOf number port value (now (name .entry)) (now (codes .entry))) .tool ⌝ }
+    ensures { λ r. ⌜ reportsFrom (now (reports .exit)) ≡ outcome (toolFrom (now (tool .entry)))
+        (inputOf number port value (now (name .entry)) (now (codes .entry))) .reports ⌝ }
+    ensures { λ r. ⌜ r ≡ outcome (toolFrom (now (tool .entry)))
+        (inputOf number port value (now (name .entry)) (now (codes .entry))) .answer ⌝ }
 {
     let answer = step(tool, reports, number, port, value, name, codes);
     answer as u32

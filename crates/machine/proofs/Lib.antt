@@ -1,3 +1,4 @@
+pub mod Fresh
 pub mod Each
 pub mod Differ
 pub mod Answered

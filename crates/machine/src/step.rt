@@ -26,9 +26,12 @@ pub fn step_sound(
     codes: &[u8],
 ) -> u8
     requires { ⌜ soundTool (toolFrom (now m)) ≡ true ⌝ }
-    ensures { λ r. ⌜ toolFrom (now (m .exit)) ≡ outcomeIn (toolFrom (now (m .entry))) (inputOf number port value (now (name .entry)) (now (codes .entry))) .tool ⌝ }
-    ensures { λ r. ⌜ reportsFrom (now (o .exit)) ≡ outcomeIn (toolFrom (now (m .entry))) (inputOf number port value (now (name .entry)) (now (codes .entry))) .reports ⌝ }
-    ensures { λ r. ⌜ r ≡ outcomeIn (toolFrom (now (m .entry))) (inputOf number port value (now (name .entry)) (now (codes .entry))) .answer ⌝ }
+    ensures { λ r. ⌜ toolFrom (now (m .exit)) ≡ outcomeIn (toolFrom (now (m .entry)))
+        (inputOf number port value (now (name .entry)) (now (codes .entry))) .tool ⌝ }
+    ensures { λ r. ⌜ reportsFrom (now (o .exit)) ≡ outcomeIn (toolFrom (now (m .entry)))
+        (inputOf number port value (now (name .entry)) (now (codes .entry))) .reports ⌝ }
+    ensures { λ r. ⌜ r ≡ outcomeIn (toolFrom (now (m .entry)))
+        (inputOf number port value (now (name .entry)) (now (codes .entry))) .answer ⌝ }
 {
     let x = look(m, port, value, name, codes);
     let answer = answer_of(number, x);
@@ -55,9 +58,12 @@ pub fn step(
     name: &[u8],
     codes: &[u8],
 ) -> u8
-    ensures { λ r. ⌜ toolFrom (now (m .exit)) ≡ outcome (toolFrom (now (m .entry))) (inputOf number port value (now (name .entry)) (now (codes .entry))) .tool ⌝ }
-    ensures { λ r. ⌜ reportsFrom (now (o .exit)) ≡ outcome (toolFrom (now (m .entry))) (inputOf number port value (now (name .entry)) (now (codes .entry))) .reports ⌝ }
-    ensures { λ r. ⌜ r ≡ outcome (toolFrom (now (m .entry))) (inputOf number port value (now (name .entry)) (now (codes .entry))) .answer ⌝ }
+    ensures { λ r. ⌜ toolFrom (now (m .exit)) ≡ outcome (toolFrom (now (m .entry)))
+        (inputOf number port value (now (name .entry)) (now (codes .entry))) .tool ⌝ }
+    ensures { λ r. ⌜ reportsFrom (now (o .exit)) ≡ outcome (toolFrom (now (m .entry)))
+        (inputOf number port value (now (name .entry)) (now (codes .entry))) .reports ⌝ }
+    ensures { λ r. ⌜ r ≡ outcome (toolFrom (now (m .entry)))
+        (inputOf number port value (now (name .entry)) (now (codes .entry))) .answer ⌝ }
 {
     if sound(m) {
         step_sound(m, o, number, port, value, name, codes)

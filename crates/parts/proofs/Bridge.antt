@@ -51,7 +51,15 @@ holds t h =
     let n = count-held t h in
     let a = h .fewPorts in
     let b = h .fewCarriers in
-    record { used = sym u; places = refl; count = sym n; fewPorts = omega arith; few = omega arith; ports = h .ports; carriers = h .carriers }
+    record {
+      used = sym u;
+      places = refl;
+      count = sym n;
+      fewPorts = omega arith;
+      few = omega arith;
+      ports = h .ports;
+      carriers = h .carriers;
+    }
 
 held-in : (t : Tool) (s : State) → Holds t s → t ≡ inTool s
 unfolding inTool

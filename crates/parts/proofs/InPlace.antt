@@ -1,25 +1,21 @@
 -- A port or a record that is written, as the tables have it.
-use Prim.Native.Nat.{ℕ, suc, _+_, _*_, _-_, _<_, _≤_}
+use Prim.Native.Nat.{ℕ, suc, _+_, _<_, _≤_}
 use native.Mathlib.Omega.{arith}
 use mathlib.Core.Path.{_≡_, refl, ap, sym, _∙_}
 use mathlib.Core.Logic.{_≢_}
-use mathlib.Core.Bool.{Bool, true, false}
 use mathlib.Core.List.{List, [], _∷_}
-use lib.ListN.{length, getD, set, replicate, length-set, length-replicate, getD-replicate, List·getD-eq-default}
-use lib.Dec.{ltb}
-use borrow.Author.Tests.{ltb-true, ltb-false}
+use lib.ListN.{length, getD, set, length-set}
 use lib.Seq.{sets, length-sets, getD-set-same, getD-set-other}
 use Rattle.records.specs.declared.port.Port.{Port}
 use Rattle.records.specs.declared.carrier.Carrier.{Carrier}
-use Rattle.records.specs.Ports.{noPort}
 use Rattle.records.specs.Carriers.{noCarrier}
-use Rattle.rules.specs.State.{noTool}
 use Rattle.image.specs.Image.{table, byteAt, portFrom, carrierFrom, portBytes, carrierBytes, portStart, carrierStart, toolFrom, movedUp}
 use Rattle.lists.specs.Lists.{shifted}
-use Rattle.image.proofs.Table.{table-same, table-set, table-shifted, table-const, getD-table, length-table, is-table}
+use Rattle.image.proofs.Table.{table-same, table-set, table-shifted, getD-table, length-table, is-table}
 use Rattle.image.proofs.Moved.{early-stays, moves}
-use Rattle.image.proofs.Written.{before-stays, after-stays, stands-there}
-use Rattle.image.proofs.Laid.{split, port-same, carrier-same, length-port, length-carrier, port-there, port-early, port-late, carrier-there, carrier-early, carrier-late}
+use Rattle.image.proofs.Written.{before-stays}
+use Rattle.image.proofs.Laid.{split, port-same, carrier-same, length-port, length-carrier}
+use Rattle.image.proofs.Laid.{port-there, port-early, port-late, carrier-there, carrier-early, carrier-late}
 use Rattle.parts.specs.Apply.{toPorts, toCarriers}
 
 module _ (m : List ℕ) (full : length m ≡ 1891) where
@@ -31,7 +27,8 @@ module _ (m : List ℕ) (full : length m ≡ 1891) where
         before-stays m (portStart k) (portBytes q) 0 (omega arith),
         before-stays m (portStart k) (portBytes q) 1 (omega arith),
         before-stays m (portStart k) (portBytes q) 2 (omega arith),
-        table-set 4 (λ j. portFrom m (portStart j)) (λ j. portFrom n (portStart j)) k q (port-there m (portStart k) q e (omega arith)) others,
+        table-set 4 (λ j. portFrom m (portStart j)) (λ j. portFrom n (portStart j)) k q
+            (port-there m (portStart k) q e (omega arith)) others,
         table-same 36 (λ j. carrierFrom n (carrierStart j)) (λ j. carrierFrom m (carrierStart j)) records,
       )
     where
@@ -72,22 +69,13 @@ module _ (m : List ℕ) (full : length m ≡ 1891) where
           split j k u (λ h. carrier-early m (carrierStart k) (carrierBytes c) (carrierStart j) (omega arith))
           (λ h. carrier-late m (carrierStart k) (carrierBytes c) (carrierStart j) (omega arith))
 
-  -- how many ports and places there are
-  pub sizes-put : (u v : ℕ)
-      → toolFrom (sets m 0 (u ∷ v ∷ [])) ≡ record { used = u; places = v; count = toolFrom m .count; ports = toolFrom m .ports; carriers = toolFrom m .carriers }
-  unfolding toolFrom
-  sizes-put u v =
-      rw (
-        stands-there m 0 (u ∷ v ∷ []) 0 (omega arith) (omega arith),
-        stands-there m 0 (u ∷ v ∷ []) 1 (omega arith) (omega arith),
-        after-stays m 0 (u ∷ v ∷ []) 2 (omega arith),
-        table-same 4 (λ j. portFrom n (portStart j)) (λ j. portFrom m (portStart j)) (λ j d. port-late m 0 (u ∷ v ∷ []) (portStart j) (omega arith)),
-        table-same 36 (λ j. carrierFrom n (carrierStart j)) (λ j. carrierFrom m (carrierStart j))
-            (λ j d. carrier-late m 0 (u ∷ v ∷ []) (carrierStart j) (omega arith)),
-      )
-    where
-      n : List ℕ
-      n = sets m 0 (u ∷ v ∷ [])
+  -- what is written to the first three bytes leaves the tables as they are
+  module _ (a : ℕ) (l : List ℕ) (head : a + length l ≤ 3) where
+    pub ports-stay : table 4 (λ j. portFrom (sets m a l) (portStart j)) ≡ table 4 (λ j. portFrom m (portStart j))
+    ports-stay = table-same 4 _ _ (λ j d. port-late m a l (portStart j) (omega arith))
+
+    pub carriers-stay : table 36 (λ j. carrierFrom (sets m a l) (carrierStart j)) ≡ table 36 (λ j. carrierFrom m (carrierStart j))
+    carriers-stay = table-same 36 _ _ (λ j d. carrier-late m a l (carrierStart j) (omega arith))
 
   -- how many records there are
   pub count-put : (v : ℕ) → toolFrom (set m 2 v) ≡ toCarriers (toolFrom m) v (toolFrom m .carriers)
@@ -97,9 +85,8 @@ module _ (m : List ℕ) (full : length m ≡ 1891) where
         before-stays m 2 (v ∷ []) 0 (omega arith),
         before-stays m 2 (v ∷ []) 1 (omega arith),
         getD-set-same m 2 v 0 (omega arith),
-        table-same 4 (λ j. portFrom (set m 2 v) (portStart j)) (λ j. portFrom m (portStart j)) (λ j d. port-late m 2 (v ∷ []) (portStart j) (omega arith)),
-        table-same 36 (λ j. carrierFrom (set m 2 v) (carrierStart j)) (λ j. carrierFrom m (carrierStart j))
-            (λ j d. carrier-late m 2 (v ∷ []) (carrierStart j) (omega arith)),
+        ports-stay 2 (v ∷ []) (omega arith),
+        carriers-stay 2 (v ∷ []) (omega arith),
       )
 
 -- the record at k goes, and those after it move up
@@ -122,7 +109,8 @@ module _ (m : List ℕ) (k : ℕ) (b : k < 36) where
       up : (i : ℕ) → i < 50 → byteAt moved (carrierStart j + i) ≡ byteAt m (carrierStart (suc j) + i)
       up i h =
           let z : carrierStart j + i + 50 ≡ carrierStart (suc j) + i = omega arith in
-          moved-is (carrierStart j + i) (omega arith) ∙ moves m (carrierStart k) 1841 (carrierStart j + i) (omega arith) (omega arith) ∙ rw z
+          moved-is (carrierStart j + i) (omega arith)
+          ∙ moves m (carrierStart k) 1841 (carrierStart j + i) (omega arith) (omega arith) ∙ rw z
 
   abbrev entry : ℕ → Carrier
   entry j = carrierFrom moved (carrierStart j)
@@ -154,54 +142,22 @@ module _ (m : List ℕ) (k : ℕ) (b : k < 36) where
         closed-up,
       )
 
-  pub record-gone : toolFrom (sets moved 1841 (carrierBytes noCarrier)) ≡ toCarriers (toolFrom m) (toolFrom m .count) (shifted noCarrier (toolFrom m .carriers) k)
+  record-gone : toolFrom (sets moved 1841 (carrierBytes noCarrier))
+      ≡ toCarriers (toolFrom m) (toolFrom m .count) (shifted noCarrier (toolFrom m .carriers) k)
   record-gone = carrier-put moved (length-table 1891 (movedUp m (carrierStart k) 1841)) 35 noCarrier (omega arith) refl refl ∙ tables
 
   -- and there is one less
-  pub removed-done : (v : ℕ) → toolFrom (set (sets moved 1841 (carrierBytes noCarrier)) 2 v) ≡ toCarriers (toolFrom m) v (shifted noCarrier (toolFrom m .carriers) k)
+  pub removed-done : (v : ℕ) → toolFrom (set (sets moved 1841 (carrierBytes noCarrier)) 2 v)
+      ≡ toCarriers (toolFrom m) v (shifted noCarrier (toolFrom m .carriers) k)
   removed-done v =
       let l = length-sets moved 1841 (carrierBytes noCarrier) in
       count-put (sets moved 1841 (carrierBytes noCarrier)) (l ∙ length-table 1891 (movedUp m (carrierStart k) 1841)) v
       ∙ ap (λ t. toCarriers t v (t .carriers)) record-gone
 
 -- a record more
-pub pushed-done : (m : List ℕ) → length m ≡ 1891 → (k : ℕ) (c : Carrier) → k < 36 → length (c .name .bytes) ≡ 16 → length (c .map) ≡ 25 → (v : ℕ)
+pub pushed-done : (m : List ℕ) → length m ≡ 1891 → (k : ℕ) (c : Carrier) → k < 36 → length (c .name .bytes) ≡ 16 → length (c .map) ≡ 25
+    → (v : ℕ)
     → toolFrom (set (sets m (carrierStart k) (carrierBytes c)) 2 v) ≡ toCarriers (toolFrom m) v (set (toolFrom m .carriers) k c)
 pushed-done m full k c b e h v =
     count-put (sets m (carrierStart k) (carrierBytes c)) (length-sets m (carrierStart k) (carrierBytes c) ∙ full) v
     ∙ ap (λ t. toCarriers t v (t .carriers)) (carrier-put m full k c b e h)
-
--- all zeros
-pub zero-at : (n i : ℕ) → byteAt (replicate n 0) i ≡ 0
-zero-at n i = go (ltb i n) refl
-  where
-    go : (b : Bool) → ltb i n ≡ b → byteAt (replicate n 0) i ≡ 0
-    go true e = getD-replicate {A = ℕ} n i 0 0 (ltb-true i n e)
-    go false e =
-        let h = ltb-false i n e in
-        let l = length-replicate {A = ℕ} n 0 in
-        List·getD-eq-default {A = ℕ} (replicate n 0) 0 (omega arith)
-
-empty-port : portFrom (replicate 22 0) 0 ≡ noPort
-unfolding table
-empty-port = refl
-
-empty-carrier : carrierFrom (replicate 50 0) 0 ≡ noCarrier
-unfolding table
-empty-carrier = refl
-
--- a tool of zeros is no tool
-pub nothing : (m : List ℕ) → ((i : ℕ) → byteAt m i ≡ 0) → toolFrom m ≡ noTool
-unfolding toolFrom
-nothing m z =
-    rw (
-      z 0,
-      z 1,
-      z 2,
-      table-same 4 (λ j. portFrom m (portStart j)) (λ j. noPort)
-          (λ j b. port-same m (replicate 22 0) (portStart j) 0 (λ i c. z (portStart j + i) ∙ sym (zero-at 22 (0 + i))) ∙ empty-port),
-      table-same 36 (λ j. carrierFrom m (carrierStart j)) (λ j. noCarrier)
-          (λ j b. carrier-same m (replicate 50 0) (carrierStart j) 0 (λ i c. z (carrierStart j + i) ∙ sym (zero-at 50 (0 + i))) ∙ empty-carrier),
-      table-const 4 noPort,
-      table-const 36 noCarrier,
-    )

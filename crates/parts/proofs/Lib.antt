@@ -1,4 +1,5 @@
 pub mod Bridge
 pub mod Tables
+pub mod Passing
 pub mod Notes
 pub mod InPlace

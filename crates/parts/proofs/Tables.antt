@@ -14,51 +14,14 @@ use Rattle.rules.specs.declared.tool.Tool.{Tool}
 use Rattle.rules.specs.declared.row.Seen.{Seen}
 use Rattle.rules.specs.State.{stateOf, portAt, recordAt}
 use Rattle.rules.specs.Held.{Held}
-use Rattle.rules.specs.Seen.{Input, narrow, nameStands, tieStands, howManyExpected, spotTaken, someOpen, see}
+use Rattle.rules.specs.Seen.{Input, narrow, nameStands, tieStands, see}
 use Rattle.parts.specs.declared.look.Found.{Found}
 use Rattle.parts.specs.Pass.{passed, foundIn}
 use Rattle.rules.proofs.Holding.{used-held, count-held, port-held, record-held}
 
-abbrev pub seenAt : Tool → Input → Seen
-seenAt t i = record {
-  places = t .places;
-  count = t .count;
-  port = narrow (i .port);
-  isport = between 1 (narrow (i .port)) (t .used);
-  noport = eqb (narrow (i .port)) 0;
-  value = narrow (i .value);
-  name = inBytes (i .name);
-  named = isName (i .name);
-  blank = eqb (length (i .name)) 0;
-  map = inMap (i .codes);
-  mapped = isMap (i .codes);
-  here = portAt t (narrow (i .port));
-  stands = nameStands (stateOf t) (inBytes (i .name));
-  known = ltb (nameStands (stateOf t) (inBytes (i .name))) (t .count);
-  found = recordAt t (nameStands (stateOf t) (inBytes (i .name)));
-  home = portAt t (recordAt t (nameStands (stateOf t) (inBytes (i .name))) .port);
-  holds = tieStands (stateOf t) (narrow (i .port));
-  tied = ltb (tieStands (stateOf t) (narrow (i .port))) (t .count);
-  held = recordAt t (tieStands (stateOf t) (narrow (i .port)));
-  full = leb 16 (howManyExpected (stateOf t));
-  taken = spotTaken (stateOf t) (narrow (i .value));
-  busy = someOpen (stateOf t);
-}
-
-pub seen-held : (t : Tool) → Held t → (i : Input) → seenAt t i ≡ see (stateOf t) i
-unfolding see
-seen-held t h i =
-    rw (
-      used-held t h,
-      count-held t h,
-      ← port-held t h (narrow (i .port)),
-      ← record-held t h (nameStands (stateOf t) (inBytes (i .name))),
-      ← record-held t h (tieStands (stateOf t) (narrow (i .port))),
-      ← port-held t h (recordAt t (nameStands (stateOf t) (inBytes (i .name))) .port),
-    )
-
--- the same put together from its parts
-pub seen-made : (t : Tool) → Held t → (i : Input) (port value used places n : ℕ) (text : Name) (f : Found) (named mapped : Bool) (map : List ℕ) (here home : Port)
+-- put together from what each call gave
+pub seen-made : (t : Tool) → Held t → (i : Input) (port value used places n : ℕ) (text : Name) (f : Found) (named mapped : Bool)
+    (map : List ℕ) (here home : Port)
     → port ≡ narrow (i .port) → value ≡ narrow (i .value) → text ≡ inBytes (i .name) → f ≡ foundIn t text port value
     → n ≡ t .count → map ≡ inMap (i .codes) → places ≡ t .places → used ≡ t .used → named ≡ isName (i .name) → mapped ≡ isMap (i .codes)
     → here ≡ portAt t port → home ≡ portAt t (f .found .port)
@@ -86,6 +49,14 @@ pub seen-made : (t : Tool) → Held t → (i : Input) (port value used places n 
       taken = f .passed .taken;
       busy = f .passed .busy;
     } (see (stateOf t) i)
-unfolding foundIn passed
+unfolding foundIn passed see
 seen-made t h i port value used places n text f named mapped map here home a b c d e g j k l o p q =
-    rw (q, p, o, l, k, j, g, e, d, c, b, a) (seen-held t h i)
+    rw (q, p, o, l, k, j, g, e, d, c, b, a)
+    (rw (
+      used-held t h,
+      count-held t h,
+      ← port-held t h (narrow (i .port)),
+      ← record-held t h (nameStands (stateOf t) (inBytes (i .name))),
+      ← record-held t h (tieStands (stateOf t) (narrow (i .port))),
+      ← port-held t h (recordAt t (nameStands (stateOf t) (inBytes (i .name))) .port),
+    ))

@@ -1,7 +1,7 @@
 use mathlib.Core.Path.{ap, _∙_}
 use lib.ListN.{length, replicate}
 use Rattle.image.specs.Image.{toolFrom}
-use Rattle.parts.proofs.InPlace.{nothing, zero-at}
+use Rattle.machine.proofs.Fresh.{nothing, zero-at}
 use Rattle.machine.proofs.setup.no_tool.Statement.{statement}
 use Rattle.machine.proofs.setup.no_tool.Tie as tie
 

@@ -2,10 +2,9 @@ use borrow.Author.Needs.{needs}
 use borrow.Author.Tests.{le-leb, lt-leb}
 use native.Mathlib.Omega.{arith}
 use Prim.Native.Nat.{ℕ, _≤_, _<_}
-use mathlib.Core.Path.{_≡_, refl, ap, sym, _∙_}
-use mathlib.Core.List.{[], _∷_}
+use mathlib.Core.Path.{_≡_, ap, _∙_}
 use lib.ListN.{length, replicate}
-use lib.Seq.{sets, take-all}
+use lib.Seq.{take-all}
 use Rattle.lists.specs.Lists.{fill}
 use Rattle.lists.proofs.Tables.{fill-none, length-repeat}
 use Rattle.records.specs.Ports.{noPort, newPort}
@@ -15,7 +14,7 @@ use Rattle.rules.specs.declared.tool.Setup.{Setup}
 use Rattle.rules.specs.State.{noTool, inTool, setUp}
 use Rattle.image.specs.Image.{toolFrom}
 use Rattle.parts.specs.Apply.{toPorts}
-use Rattle.parts.proofs.InPlace.{sizes-put}
+use Rattle.machine.proofs.Fresh.{sizes-put}
 use Rattle.machine.proofs.setup.setup.Statement.{statement}
 use Rattle.machine.proofs.setup.setup.Tie as tie
 

@@ -1,5 +1,4 @@
 -- What was seen decides the answer and the effect; carrying it out is what the definitions say.
-use borrow.Author.Needs.{needs}
 use mathlib.Core.Path.{_≡_, sym, ap, _∙_}
 use mathlib.Core.Bool.{true}
 use Rattle.records.specs.declared.port.Port.{Port}
@@ -13,7 +12,7 @@ use Rattle.rules.specs.Seen.{Input, inputOf, see}
 use Rattle.rules.specs.Row.{judge}
 use Rattle.rules.specs.Rows.{rowOf}
 use Rattle.rules.specs.Reports.{noReports}
-use Rattle.rules.specs.Outcome.{refused, rowIn, outcomeIn}
+use Rattle.rules.specs.Outcome.{rowIn}
 use Rattle.rules.proofs.Holding.{sound-held}
 use Rattle.image.specs.Image.{toolFrom}
 use Rattle.image.proofs.Laid.{ports-long, carriers-long}

@@ -1,9 +1,8 @@
 use borrow.Author.Needs.{needs}
 use native.Mathlib.Omega.{arith}
 use Prim.Native.Nat.{_≤_}
-use mathlib.Core.Path.{_≡_, ap, _∙_}
+use mathlib.Core.Path.{ap, _∙_}
 use Rattle.image.specs.Image.{toolFrom}
-use Rattle.parts.specs.Apply.{withPort, withRecord, removed, pushed}
 use Rattle.parts.proofs.Bridge.{count-withPort, count-withRecord}
 use Rattle.parts.proofs.apply.apply.Statement.{statement}
 use Rattle.parts.proofs.apply.apply.Tie as tie

@@ -2,9 +2,7 @@ use borrow.Author.Needs.{needs}
 use borrow.Author.Tests.{lt-ltb, le-ltb}
 use native.Mathlib.Omega.{arith}
 use Prim.Native.Nat.{_-_}
-use mathlib.Core.Path.{_≡_, ap, _∙_}
-use mathlib.Core.Bool.{true, false}
-use lib.Dec.{ltb}
+use mathlib.Core.Path.{ap, _∙_}
 use lib.ListN.{set}
 use Rattle.image.specs.Image.{toolFrom}
 use Rattle.parts.specs.Apply.{removed}
@@ -21,7 +19,7 @@ returns c =
     let k = s .args .k in
     let e = n .count .ensures in
     let w = c .before .before .before .before .before .before .wide .ensures in
-    let i : ltb k (toolFrom m .count) ≡ true = lt-ltb k (toolFrom m .count) (omega (arith, c .before .before .before .before .before .if1 .taken)) in
+    let i = lt-ltb k (toolFrom m .count) (omega (arith, c .before .before .before .before .before .if1 .taken)) in
     let v = n .count .result - 1 in
     let q = rw (c .before .none .ensures, c .before .before .before .move-up .ensures) at (c .put-carrier .ensures .0) in
     rw (i, ← e) (ap (λ l. toolFrom (set l 2 v)) q ∙ removed-done m k (omega arith) v)
@@ -34,7 +32,7 @@ returns-2 c =
     let k = s .args .k in
     let e = c .before .before .count .ensures in
     let w = c .before .wide .ensures in
-    let i : ltb k (toolFrom m .count) ≡ false = le-ltb k (toolFrom m .count) (omega (arith, c .if1 .left)) in
+    let i = le-ltb k (toolFrom m .count) (omega (arith, c .if1 .left)) in
     rw i
 
 pub removed-spec : {M : Type 1} → statement M

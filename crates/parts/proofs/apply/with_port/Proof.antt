@@ -2,8 +2,6 @@ use borrow.Author.Needs.{needs}
 use borrow.Author.Tests.{lt-ltb, le-ltb}
 use native.Mathlib.Omega.{arith}
 use mathlib.Core.Path.{_≡_, ap, sym, _∙_}
-use mathlib.Core.Bool.{true, false}
-use lib.Dec.{ltb}
 use lib.ListN.{length, length-map}
 use Rattle.rules.specs.State.{spotOf}
 use Rattle.image.specs.Image.{toolFrom}
@@ -22,7 +20,7 @@ returns c =
     let e = c .before .before .before .before .before .before .spot-of .ensures in
     let w = c .before .before .before .wide .ensures in
     let u = c .before .before .before .before .used .ensures in
-    let i : ltb (spotOf (s .args .p)) (toolFrom m .used) ≡ true = lt-ltb (spotOf (s .args .p)) (toolFrom m .used) (omega (arith, c .before .before .if1 .taken)) in
+    let i = lt-ltb (spotOf (s .args .p)) (toolFrom m .used) (omega (arith, c .before .before .if1 .taken)) in
     rw i (ap toolFrom (rw e at (c .put-port .ensures .0)) ∙ port-put m (c .put-port .ensures .1) (spotOf (s .args .p)) x (omega arith) n)
 
 returns-2 : tie.Need-returns-2
@@ -32,7 +30,7 @@ returns-2 c =
     let e = c .before .before .before .before .spot-of .ensures in
     let w = c .before .wide .ensures in
     let u = c .before .before .used .ensures in
-    let i : ltb (spotOf (s .args .p)) (toolFrom (s .args .m .now) .used) ≡ false = le-ltb (spotOf (s .args .p)) (toolFrom (s .args .m .now) .used) (omega (arith, c .if1 .left)) in
+    let i = le-ltb (spotOf (s .args .p)) (toolFrom (s .args .m .now) .used) (omega (arith, c .if1 .left)) in
     rw i
 
 pub with-port-spec : {M : Type 1} → statement M

@@ -2,33 +2,20 @@
 use borrow.Author.Needs.{needs}
 use native.Mathlib.Omega.{arith}
 use native.Mathlib.Nat.{zero-add, add-zero}
-use Prim.Native.Nat.{ℕ, _≤_, _<_, _+_, _-_}
-use mathlib.Core.Path.{_≡_, ap, sym, _∙_}
-use mathlib.Core.List.{List}
+use Prim.Native.Nat.{_≤_, _<_, _+_, _-_}
+use mathlib.Core.Path.{_≡_, sym, _∙_}
 use lib.ListN.{getD, drop, take}
 use Rattle.lists.specs.Lists.{whereIs, howMany, any}
-use Rattle.lists.proofs.Loops.{back-in, ended-in, nearer, one-more}
-use Rattle.records.specs.declared.name.Name.{Name}
-use Rattle.records.specs.declared.carrier.Carrier.{Carrier}
-use Rattle.records.specs.Carriers.{noCarrier, expected, isOpen}
+use Rattle.lists.proofs.Loops.{back-in, ended-in}
+use Rattle.records.specs.Carriers.{noCarrier}
 use Rattle.rules.specs.State.{stateOf, recordAt}
-use Rattle.rules.specs.Seen.{isNamed, isTiedTo, isInSpot, nameStands, tieStands, howManyExpected, spotTaken, someOpen}
+use Rattle.rules.specs.Seen.{nameStands, tieStands, howManyExpected, spotTaken, someOpen}
 use Rattle.image.specs.Image.{toolFrom}
 use Rattle.image.proofs.Laid.{carriers-long, record-is}
-use Rattle.parts.specs.declared.look.Passed.{Passed}
 use Rattle.parts.specs.Pass.{passed, foundIn}
+use Rattle.parts.proofs.Passing.{passedIn, gathered-in, one-expected}
 use Rattle.parts.proofs.look.pass.Statement.{statement}
 use Rattle.parts.proofs.look.pass.Tie as tie
-
--- what the pass has of the rest l, from position k on
-abbrev passedIn : Name → ℕ → ℕ → ℕ → List Carrier → Passed
-passedIn n p b k l = record {
-  stands = k + whereIs (isNamed n) l;
-  holds = k + whereIs (isTiedTo p) l;
-  expected = howMany expected l;
-  taken = any (isInSpot b) l;
-  busy = any isOpen l;
-}
 
 abbrev Inv-loop : tie.InvT-loop
 Inv-loop m name port value n p₀ k₀ p k =
@@ -53,7 +40,6 @@ loop-holds c =
     )
 
 loop-again : tie.Need-loop-again Inv-loop μ-loop
-unfolding whereIs howMany any
 loop-again c =
     let b = c .before .before .before in
     let a = b .before .before .before .args in
@@ -61,14 +47,16 @@ loop-again c =
     let t = toolFrom m in
     let k = b .loop .k in
     let l = carriers-long m in
-    let r : c .before .carrier-from .result ≡ getD (t .carriers) (k - 1) noCarrier =
-    c .before .carrier-from .ensures ∙ sym (record-is m (k - 1) noCarrier (omega arith)) in
+    let v = getD (t .carriers) (k - 1) noCarrier in
+    let r = c .before .carrier-from .ensures ∙ sym (record-is m (k - 1) noCarrier (omega arith)) in
     let e = back-in (t .carriers) (t .count) k noCarrier (omega arith) (omega arith) (omega arith) in
-    let g = rw r at (c .gather .ensures) in
-    let one : c .gather .result .expected ≤ 1 + b .loop .p .expected =
-    one-more (expected (getD (t .carriers) (k - 1) noCarrier)) _ (ap (λ p. p .expected) g) in
+    let w = c .before .carrier-from .result in
+    let x = b .loop .p in
+    let y = c .gather .result in
+    let g = c .gather .ensures in
+    let one : y .expected ≤ 1 + x .expected = one-expected (a .name) (a .port) (a .value) (k - 1) w x y g in
     let h : 0 < k = omega arith in
-    (omega arith, omega arith, omega arith, g ∙ rw (b .loop .inv .3, e, nearer, nearer))
+    (omega arith, omega arith, omega arith, gathered-in (a .name) (a .port) (a .value) k w v x y _ _ h g (b .loop .inv .3) r e)
 
 returns : tie.Need-returns Inv-loop μ-loop
 unfolding foundIn passed recordAt nameStands tieStands howManyExpected spotTaken someOpen
@@ -82,5 +70,5 @@ returns c =
 pub pass-spec : {M : Type 1} → statement M
 pass-spec =
     tie.close
-    (tie.spec Inv-loop μ-loop (λ c. search needs) (λ c κs. tt) loop-holds (λ c. search needs) (λ c. search needs) (λ c. search needs) (λ c κs. omega arith)
-    (λ c κs. search needs) (λ c. search needs) loop-again (λ c κs. tt) (λ c κs. tt) returns)
+    (tie.spec Inv-loop μ-loop (λ c. search needs) (λ c κs. tt) loop-holds (λ c. search needs) (λ c. search needs) (λ c. search needs)
+    (λ c κs. omega arith) (λ c κs. search needs) (λ c. search needs) loop-again (λ c κs. tt) (λ c κs. tt) returns)
