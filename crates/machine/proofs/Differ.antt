@@ -21,71 +21,89 @@ use Rattle.rules.specs.declared.row.Effect.{Effect}
 use Rattle.rules.specs.declared.report.Report.{Report}
 use Rattle.rules.specs.State.{State, spotOf, portOf, recordOf}
 use Rattle.rules.specs.Row.{enact}
-use Rattle.rules.specs.Reports.{change, transferChange, accessChange, reservationChange, tieChange, byPort, each, recordIn, removedChange, liveChange, byCarrier, differences}
+use Rattle.rules.specs.Reports.{change, transferChange, accessChange, reservationChange, tieChange}
+use Rattle.rules.specs.Reports.{byPort, each, recordIn, removedChange, liveChange, byCarrier, differences}
 use Rattle.rules.proofs.Names.{name-same, name-sym}
 use Rattle.rules.proofs.SoundFacts.{Distinct}
 use Rattle.rules.proofs.Apt.{Apt}
 use Rattle.parts.specs.Told.{portTouched, recordTouched, touched}
-use Rattle.machine.proofs.Each.{not-reported, unchanged, all-still, one-port, each-none, each-one, each-without-none, each-without-one, each-append}
+use Rattle.machine.proofs.Each.{not-reported, unchanged, all-still, one-port}
+use Rattle.machine.proofs.Each.{each-none, each-one, each-without-none, each-without-one, each-append}
 
-module _ (m : ℕ) (f : Carrier → ℕ) (zeroed : f noCarrier ≡ 0) (s : State) (act : Effect) (uniq : Distinct (s .carriers)) (apt : Apt s act) where
+module _
+    (m : ℕ) (f : Carrier → ℕ) (zeroed : f noCarrier ≡ 0)
+    (s : State) (act : Effect) (uniq : Distinct (s .carriers)) (apt : Apt s act) where
   abbrev l : List Carrier
   l = s .carriers
+
+  abbrev entry : ℕ → Carrier
+  entry j = getD l j noCarrier
 
   abbrev changed : List Carrier
   changed = set l (act .changes) (act .next)
 
+  abbrev staying : List Carrier
+  staying = without (act .goes) changed
+
   abbrev after : List Carrier
-  after = withNew (act .made) (act .next) (without (act .goes) changed)
+  after = withNew (act .made) (act .next) staying
+
+  abbrev hasName : ℕ → Carrier → Bool
+  hasName j d = sameName (d .name) (entry j .name)
 
   long : length changed ≡ length l
   long = simp length-set
 
-  same-name : (j : ℕ) → j < length l → getD changed j noCarrier .name ≡ getD l j noCarrier .name
+  same-name : (j : ℕ) → j < length l → getD changed j noCarrier .name ≡ entry j .name
   same-name j b = go (ℕ-discrete j (act .changes))
     where
-      go : Dec (j ≡ act .changes) → getD changed j noCarrier .name ≡ getD l j noCarrier .name
+      go : Dec (j ≡ act .changes) → getD changed j noCarrier .name ≡ entry j .name
       go (yes e) = rw (e, getD-set-same l (act .changes) (act .next) noCarrier (rw e at b)) (apt .named (rw e at b))
       go (no n) = rw (getD-set-other l (act .changes) j (act .next) noCarrier n)
 
-  live : (j : ℕ) → j < length l → j ≢ act .goes → any (λ d. sameName (d .name) (getD l j noCarrier .name)) after ≡ true
+  live : (j : ℕ) → j < length l → j ≢ act .goes → any (hasName j) after ≡ true
   live j b n = go (act .made) (any-other _ changed (act .goes) j noCarrier (rw long b) n (name-same _ _ (same-name j b)))
     where
-      go : (w : Bool) → any (λ d. sameName (d .name) (getD l j noCarrier .name)) (without (act .goes) changed) ≡ true → any (λ d. sameName (d .name) (getD l j noCarrier .name)) (withNew w (act .next) (without (act .goes) changed)) ≡ true
+      go : (w : Bool) → any (hasName j) staying ≡ true → any (hasName j) (withNew w (act .next) staying) ≡ true
       go true e = rw (any-append, e)
       go false e = e
 
-  dead : act .goes < length l → any (λ d. sameName (d .name) (getD l (act .goes) noCarrier .name)) after ≡ false
+  dead : act .goes < length l → any (hasName (act .goes)) after ≡ false
   unfolding any
-  dead b = go (act .made) refl (any-gone _ changed (act .goes) noCarrier (λ j i n. rw (same-name j (rw long at i)) (uniq j (act .goes) (rw long at i) b n)))
+  dead b = go (act .made) refl (any-gone _ changed (act .goes) noCarrier others)
     where
-      go : (w : Bool) → act .made ≡ w → any (λ d. sameName (d .name) (getD l (act .goes) noCarrier .name)) (without (act .goes) changed) ≡ false
-          → any (λ d. sameName (d .name) (getD l (act .goes) noCarrier .name)) (withNew w (act .next) (without (act .goes) changed)) ≡ false
+      others : (j : ℕ) → j < length changed → j ≢ act .goes → hasName (act .goes) (getD changed j noCarrier) ≡ false
+      others j i n = rw (same-name j (rw long at i)) (uniq j (act .goes) (rw long at i) b n)
+
+      go : (w : Bool) → act .made ≡ w → any (hasName (act .goes)) staying ≡ false
+          → any (hasName (act .goes)) (withNew w (act .next) staying) ≡ false
       go true q e = rw (any-append, e, name-sym, apt .fresh q (act .goes) b)
       go false q e = e
 
-  gone-part : each (removedChange m f after) l ≡ change m 0 (getD l (act .goes) noCarrier .name) (f (getD l (act .goes) noCarrier)) 0
+  gone-part : each (removedChange m f after) l ≡ change m 0 (entry (act .goes) .name) (f (entry (act .goes))) 0
   gone-part = go (ltb (act .goes) (length l)) refl
     where
-      go : (w : Bool) → ltb (act .goes) (length l) ≡ w → each (removedChange m f after) l ≡ change m 0 (getD l (act .goes) noCarrier .name) (f (getD l (act .goes) noCarrier)) 0
+      go : (w : Bool) → ltb (act .goes) (length l) ≡ w
+          → each (removedChange m f after) l ≡ change m 0 (entry (act .goes) .name) (f (entry (act .goes))) 0
       go true e = let b = ltb-true (act .goes) (length l) e in
           each-one (removedChange m f after) l (act .goes) noCarrier b (λ j i n. rw (live j i n)) ∙ rw (dead b)
       go false e = let b = ltb-false (act .goes) (length l) e in
           each-none (removedChange m f after) l noCarrier (λ j i. rw (live j i (omega arith)))
           ∙ sym (rw (List·getD-eq-default l noCarrier b) (unchanged m 0 noName (f noCarrier) 0 zeroed))
 
-  own : (j : ℕ) → j < length l → recordIn l (getD l j noCarrier .name) ≡ getD l j noCarrier
-  own j b = rw (where-one (λ c. sameName (c .name) (getD l j noCarrier .name)) l j noCarrier b (name-same _ _ refl) (λ k i n. uniq k j i b n))
+  own : (j : ℕ) → j < length l → recordIn l (entry j .name) ≡ entry j
+  own j b = rw (where-one (hasName j) l j noCarrier b (name-same _ _ refl) (λ k i n. uniq k j i b n))
 
-  as-was : (j : ℕ) → j < length l → liveChange m f l (getD l j noCarrier) ≡ []
+  as-was : (j : ℕ) → j < length l → liveChange m f l (entry j) ≡ []
   as-was j b = unchanged m 0 _ _ _ (ap f (own j b))
 
-  stay-part : each (liveChange m f l) after ≡ change m 0 (act .next .name) (f (getD l (act .changes) noCarrier)) (f (act .next))
+  stay-part : each (liveChange m f l) after ≡ change m 0 (act .next .name) (f (entry (act .changes))) (f (act .next))
   unfolding each
   stay-part = go (ltb (act .changes) (length l)) refl (act .made) refl
     where
       go : (w : Bool) → ltb (act .changes) (length l) ≡ w → (u : Bool) → act .made ≡ u
-          → each (liveChange m f l) (withNew u (act .next) (without (act .goes) changed)) ≡ change m 0 (act .next .name) (f (getD l (act .changes) noCarrier)) (f (act .next))
+          → each (liveChange m f l) (withNew u (act .next) staying)
+          ≡ change m 0 (act .next .name) (f (entry (act .changes))) (f (act .next))
       go true e true q = let b = ltb-true (act .changes) (length l) e in let d = apt .lone q in absurd (omega arith)
       go true e false q = let b = ltb-true (act .changes) (length l) e in
           each-without-one (liveChange m f l) changed (act .goes) (act .changes) noCarrier (rw long b) (apt .apart b)
@@ -108,7 +126,7 @@ module _ (m : ℕ) (f : Carrier → ℕ) (zeroed : f noCarrier ≡ 0) (s : State
           (sym (rw (apt .none q b, List·getD-eq-default l noCarrier b) (unchanged m 0 noName (f noCarrier) (f noCarrier) refl)))
 
   carriers-touched : byCarrier m f l after
-      ≡ recordTouched m (getD l (act .goes) noCarrier .name) (f (getD l (act .goes) noCarrier)) (act .next .name) (f (getD l (act .changes) noCarrier)) (f (act .next))
+      ≡ recordTouched m (entry (act .goes) .name) (f (entry (act .goes))) (act .next .name) (f (entry (act .changes))) (f (act .next))
   unfolding byCarrier recordTouched
   carriers-touched = ap₂ _++_ gone-part stay-part
 
@@ -121,21 +139,25 @@ spot-of p h = go (ℕ-discrete p 0)
     go (no n) = let z : spotOf p ≡ p - 1 = rw (ne-eqb p 0 n) in omega arith
 
 module _ (s : State) (act : Effect) (few : length (s .ports) ≤ 4) (apt : Apt s act) where
-  port-touched : (d : ℕ → Port → Port → List Report) → ((k : ℕ) (x : Port) → d k x x ≡ [])
-      → byPort d 1 (s .ports) (set (s .ports) (spotOf (act .port)) (act .becomes)) ≡ d (act .port) (portOf s (act .port)) (act .becomes)
+  abbrev k : ℕ
+  k = spotOf (act .port)
+
+  port-touched : (d : ℕ → Port → Port → List Report) → ((p : ℕ) (x : Port) → d p x x ≡ [])
+      → byPort d 1 (s .ports) (set (s .ports) k (act .becomes)) ≡ d (act .port) (portOf s (act .port)) (act .becomes)
   unfolding portOf
-  port-touched d still = go (ltb (spotOf (act .port)) (length (s .ports))) refl
+  port-touched d still = go (ltb k (length (s .ports))) refl
     where
-      go : (w : Bool) → ltb (spotOf (act .port)) (length (s .ports)) ≡ w → byPort d 1 (s .ports) (set (s .ports) (spotOf (act .port)) (act .becomes)) ≡ d (act .port) (getD (s .ports) (spotOf (act .port)) noPort) (act .becomes)
-      go true e = let b = ltb-true (spotOf (act .port)) (length (s .ports)) e in
-          one-port d still 1 (s .ports) (spotOf (act .port)) (act .becomes) b ∙ ap (λ k. d k (getD (s .ports) (spotOf (act .port)) noPort) (act .becomes)) (spot-of (act .port) (omega arith))
-      go false e = let b = ltb-false (spotOf (act .port)) (length (s .ports)) e in
-          rw (set-out (s .ports) (spotOf (act .port)) (act .becomes) b, apt .still b) (all-still d still 1 (s .ports) ∙ sym (still (act .port) _))
+      go : (w : Bool) → ltb k (length (s .ports)) ≡ w
+          → byPort d 1 (s .ports) (set (s .ports) k (act .becomes)) ≡ d (act .port) (getD (s .ports) k noPort) (act .becomes)
+      go true e = let b = ltb-true k (length (s .ports)) e in
+          one-port d still 1 (s .ports) k (act .becomes) b
+          ∙ ap (λ p. d p (getD (s .ports) k noPort) (act .becomes)) (spot-of (act .port) (omega arith))
+      go false e = let b = ltb-false k (length (s .ports)) e in
+          rw (set-out (s .ports) k (act .becomes) b, apt .still b) (all-still d still 1 (s .ports) ∙ sym (still (act .port) _))
 
 tie-still : (p : ℕ) (x : Port) → tieChange p x x ≡ []
 tie-still p x = not-reported _ 4 p noName _ _ (rw (name-same (x .tie) (x .tie) refl))
 
--- Between a state and what a plan makes of it nothing differs but what the plan touches.
 pub differences-touched : (s : State) (act : Effect) → length (s .ports) ≤ 4 → Distinct (s .carriers) → Apt s act
     → differences s (enact act s) ≡ touched (portOf s (act .port)) (recordOf s (act .goes)) (recordOf s (act .changes)) act
 unfolding differences enact touched portTouched recordOf

@@ -86,7 +86,8 @@ module _ (m : ℕ) (gone : Name) (lost : ℕ) (n : Name) (old new : ℕ) where
 data Small (s : State) (r : Row) : Type 0 where
   noneGoes : length (s .carriers) ≤ r .effect .goes → Small s r
   noneChanges : length (s .carriers) ≤ r .effect .changes → r .effect .next ≡ noCarrier → Small s r
-  onlyTie : portOf s (r .effect .port) .transfer ≡ r .effect .becomes .transfer → portOf s (r .effect .port) .access ≡ r .effect .becomes .access
+  onlyTie : portOf s (r .effect .port) .transfer ≡ r .effect .becomes .transfer
+      → portOf s (r .effect .port) .access ≡ r .effect .becomes .access
       → portOf s (r .effect .port) .reserved ≡ r .effect .becomes .reserved → Small s r
 
 one-of : {s : State} {r q : Row} (b : Bool) → Small s r → Small s q → Small s (cond b r q)
@@ -120,7 +121,9 @@ module _ (s : State) (r : Row) where
   onPort = portTouched (e .port) (portOf s (e .port)) (e .becomes)
 
   abbrev inModel : ℕ → (Carrier → ℕ) → List Report
-  inModel m f = recordTouched m (recordOf s (e .goes) .name) (f (recordOf s (e .goes))) (e .next .name) (f (recordOf s (e .changes))) (f (e .next))
+  inModel m f =
+      recordTouched m (recordOf s (e .goes) .name) (f (recordOf s (e .goes)))
+      (e .next .name) (f (recordOf s (e .changes))) (f (e .next))
 
   abbrev told : List Report
   told = touched (portOf s (e .port)) (recordOf s (e .goes)) (recordOf s (e .changes)) e

@@ -75,5 +75,5 @@ returns-4 c =
 pub setup-spec : {M : Type 1} → statement M
 setup-spec =
     tie.close
-    (tie.spec (λ c κs. tt) (λ c κs. (search needs, c .before .before .before .before .no-tool .ensures)) (λ c. search needs) (λ c. search needs)
-    (λ c. search needs) (λ c κs. omega arith) returns returns-2 returns-3 returns-4)
+    (tie.spec (λ c κs. tt) (λ c κs. (search needs, c .before .before .before .before .no-tool .ensures)) (λ c. search needs)
+    (λ c. search needs) (λ c. search needs) (λ c κs. omega arith) returns returns-2 returns-3 returns-4)

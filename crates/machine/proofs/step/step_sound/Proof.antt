@@ -35,24 +35,27 @@ abbrev input : tie.Start → Input
 input s = inputOf (s .args .number) (s .args .port) (s .args .value) (s .args .name .now) (s .args .codes .now)
 
 -- what was seen is what there is to see
-seen : (c : tie.After-look) → c .look .result ≡ see (stateOf (tool (c .before .before .before .before))) (input (c .before .before .before .before))
+seen : (c : tie.After-look) → let s = c .before .before .before .before in c .look .result ≡ see (stateOf (tool s)) (input s)
 seen c =
     let a = c .before .before .before .before .args in
     c .look .ensures
     ∙ see-number (stateOf (toolFrom (a .m .now))) (a .number) (a .port) (a .value) (a .name .now) (a .codes .now)
 
 answer : (c : tie.After-answer-of)
-    → c .answer-of .result ≡ judge (rowIn (stateOf (tool (c .before .before .before .before .before))) (input (c .before .before .before .before .before)) .grounds)
-answer c = c .answer-of .ensures ∙ ap (λ x. judge (rowOf (c .before .before .before .before .before .args .number) x .grounds)) (seen (c .before))
+    → let s = c .before .before .before .before .before in c .answer-of .result ≡ judge (rowIn (stateOf (tool s)) (input s) .grounds)
+answer c =
+    c .answer-of .ensures
+    ∙ ap (λ x. judge (rowOf (c .before .before .before .before .before .args .number) x .grounds)) (seen (c .before))
 
-effect : (c : tie.After-effect-of) → c .effect-of .result
-    ≡ rowIn (stateOf (tool (c .before .before .before .before .before .before .before))) (input (c .before .before .before .before .before .before .before)) .effect
+effect : (c : tie.After-effect-of)
+    → let s = c .before .before .before .before .before .before .before in c .effect-of .result ≡ rowIn (stateOf (tool s)) (input s) .effect
 effect c =
     c .effect-of .ensures
     ∙ ap (λ x. rowOf (c .before .before .before .before .before .before .before .args .number) x .effect) (seen (c .before .before .before))
 
 -- the reports of an effect, from the port and the records that were read
-told-is : (t : Tool) (e f : Effect) (x : Port) (g w : Carrier) → e ≡ f → x ≡ portAt t (e .port) → g ≡ recordAt t (e .goes) → w ≡ recordAt t (e .changes)
+told-is : (t : Tool) (e f : Effect) (x : Port) (g w : Carrier) → e ≡ f
+    → x ≡ portAt t (e .port) → g ≡ recordAt t (e .goes) → w ≡ recordAt t (e .changes)
     → noteAll noReports (touched x g w e) ≡ noteAll noReports (toldBy t f)
 told-is t e f x g w p a b d = rw (a, b, d, p)
 
@@ -76,7 +79,9 @@ returns c =
     let o = accepted-is t (input s) (sound s) (held s) (sym (answer a) ∙ z) in (
       c .apply .ensures ∙ ap (applied t) (effect e) ∙ ap (λ x. x .tool) o,
       (
-        d .told .ensures ∙ told-is t _ _ _ _ _ (effect e) (p .port-at .ensures) (g .record-at .ensures) (w .record-at2 .ensures) ∙ ap (λ x. x .reports) o,
+        d .told .ensures
+            ∙ told-is t _ _ _ _ _ (effect e) (p .port-at .ensures) (g .record-at .ensures) (w .record-at2 .ensures)
+            ∙ ap (λ x. x .reports) o,
         z ∙ ap (λ x. x .answer) o,
       ),
     )
