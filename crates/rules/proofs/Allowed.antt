@@ -54,15 +54,20 @@ one-of {r} {q} n k f g = go (eqb n k) refl
 rows-within : (n : ℕ) (x : Seen) → Within n (rowOf n x)
 unfolding rowOf mayAnswer every any
 rows-within n x =
-    one-of n 1 (row-within 1 (bind x) refl refl) (one-of n 2 (row-within 2 (cancelBind x) refl refl) (one-of n 3 (row-within 3 (carrierNotification x) refl refl) (
-    one-of n 4 (row-within 4 (cancelCarrierNotification x) refl refl) (one-of n 5 (row-within 5 (proceedWithCarrier x) refl refl) (one-of n 6 (row-within 6 (cancelCarrier x) refl refl) (
-    one-of n 7 (row-within 7 (carrierOut x) refl refl) (one-of n 8 (row-within 8 (carrierIn x) refl refl) (one-of n 9 (row-within 9 (changeAccess x) refl refl) (
-    one-of n 10 (row-within 10 (changeServiceStatus x) refl refl) (one-of n 11 (row-within 11 (reserveAtPort x) refl refl) (one-of n 12 (row-within 12 (cancelReservationAtPort x) refl refl) (
-    one-of n 13 (row-within 13 (loadStart x) refl refl) (one-of n 14 (row-within 14 (loadDone x) refl refl) (one-of n 15 (row-within 15 (loadFail x) refl refl) (
-    one-of n 16 (row-within 16 (idRead x) refl refl) (one-of n 17 (row-within 17 (idReadFailed x) refl refl) (one-of n 18 (row-within 18 (moveIn x) refl refl) (
-    one-of n 19 (row-within 19 (openRow x) refl refl) (one-of n 20 (row-within 20 (slotMap x) refl refl) (one-of n 21 (row-within 21 (accessStart x) refl refl) (
-    one-of n 22 (row-within 22 (accessEnd x) refl refl) (one-of n 23 (row-within 23 (closeRow x) refl refl) (one-of n 24 (row-within 24 (unloadStart x) refl refl) (
-    one-of n 25 (row-within 25 (unloadDone x) refl refl) (one-of n 26 (row-within 26 (unloadFail x) refl refl) (record { within = refl }))))))))))))))))))))))))))
+    one-of n 1 (row-within 1 (bind x) refl refl) (one-of n 2 (row-within 2 (cancelBind x) refl refl)
+    (one-of n 3 (row-within 3 (carrierNotification x) refl refl) (one-of n 4 (row-within 4 (cancelCarrierNotification x) refl refl)
+    (one-of n 5 (row-within 5 (proceedWithCarrier x) refl refl) (one-of n 6 (row-within 6 (cancelCarrier x) refl refl)
+    (one-of n 7 (row-within 7 (carrierOut x) refl refl) (one-of n 8 (row-within 8 (carrierIn x) refl refl)
+    (one-of n 9 (row-within 9 (changeAccess x) refl refl) (one-of n 10 (row-within 10 (changeServiceStatus x) refl refl)
+    (one-of n 11 (row-within 11 (reserveAtPort x) refl refl) (one-of n 12 (row-within 12 (cancelReservationAtPort x) refl refl)
+    (one-of n 13 (row-within 13 (loadStart x) refl refl) (one-of n 14 (row-within 14 (loadDone x) refl refl)
+    (one-of n 15 (row-within 15 (loadFail x) refl refl) (one-of n 16 (row-within 16 (idRead x) refl refl)
+    (one-of n 17 (row-within 17 (idReadFailed x) refl refl) (one-of n 18 (row-within 18 (moveIn x) refl refl)
+    (one-of n 19 (row-within 19 (openRow x) refl refl) (one-of n 20 (row-within 20 (slotMap x) refl refl)
+    (one-of n 21 (row-within 21 (accessStart x) refl refl) (one-of n 22 (row-within 22 (accessEnd x) refl refl)
+    (one-of n 23 (row-within 23 (closeRow x) refl refl) (one-of n 24 (row-within 24 (unloadStart x) refl refl)
+    (one-of n 25 (row-within 25 (unloadDone x) refl refl) (one-of n 26 (row-within 26 (unloadFail x) refl refl)
+    (record { within = refl }))))))))))))))))))))))))))
 
 pub nothing-else : (s : State) (i : Input) → mayAnswer (i .number) (answerIn s i) ≡ true
 unfolding answerIn

@@ -103,14 +103,16 @@ module _ (s : State) (i : Input) (h : sound s ≡ true) where
   -- the port given is the tool's
   given-port : x .isport ≡ true → (q : Port) → Still s (x .port) q
   unfolding see
-  given-port e q = still-in s (x .port) q (leb-true 1 (x .port) (and-l _ _ e)) (leb-true (x .port) (length (s .ports)) (and-r (leb 1 (x .port)) _ e))
+  given-port e q =
+      still-in s (x .port) q (leb-true 1 (x .port) (and-l _ _ e)) (leb-true (x .port) (length (s .ports)) (and-r (leb 1 (x .port)) _ e))
 
   -- a record's own port, where it has one
   own-port : (k : ℕ) → (recordOf s k .port ≡ 0 → ⊥) → (q : Port) → Still s (recordOf s k .port) q
   own-port k n q = still-in s (recordOf s k .port) q (omega arith) (port-fits s h k)
 
   -- no record has the input's name
-  pub no-namesake : x .known ≡ false → (j : ℕ) → j < length (s .carriers) → sameName (getD (s .carriers) j noCarrier .name) (x .name) ≡ false
+  pub no-namesake : x .known ≡ false → (j : ℕ) → j < length (s .carriers)
+      → sameName (getD (s .carriers) j noCarrier .name) (x .name) ≡ false
   unfolding see nameStands
   no-namesake e = nowhere (isNamed (x .name)) (s .carriers) noCarrier (ltb-false _ _ e)
 
@@ -158,7 +160,8 @@ module _ (s : State) (i : Input) (h : sound s ≡ true) where
   given-apt e q k = port-apt s (x .port) q k (given-port e q)
 
   -- the named record changes, and a port may
-  stands-both : (p : ℕ) (q : Port) (c : Carrier) → x .known ≡ true → Still s p q → c .name ≡ x .found .name → Apt s (onBoth (x .count) p q (x .stands) c)
+  stands-both : (p : ℕ) (q : Port) (c : Carrier) → x .known ≡ true → Still s p q → c .name ≡ x .found .name
+      → Apt s (onBoth (x .count) p q (x .stands) c)
   unfolding see recordOf
   stands-both p q c u t n = both-apt s p q (x .stands) c t (stands-in u) n
 
@@ -224,7 +227,8 @@ module _ (s : State) (i : Input) (h : sound s ≡ true) where
   unknown-pod-port e = search (and-l, and-r) depth 6
 
   -- what rows 5 and 6 take is an unknown pod, unless the carrier is placed
-  pod-given : (x .known || unknownPod x) ≡ true → (not (x .known) || placed x || takesUnknownPod x) ≡ true → placed x ≡ false → x .isport ≡ true
+  pod-given : (x .known || unknownPod x) ≡ true → (not (x .known) || placed x || takesUnknownPod x) ≡ true
+      → placed x ≡ false → x .isport ≡ true
   unfolding takesUnknownPod
   pod-given a b f = go (x .known) refl
     where
@@ -246,7 +250,8 @@ module _ (s : State) (i : Input) (h : sound s ≡ true) where
         (kept (placed x)) (λ u. rw (not-placed-new u) (new-name u));
   }
     where
-      kept : (w : Bool) → x .known ≡ true → cond w (proceeded (x .found)) (withId 3 (placedAt (x .port) (foundOrNew x))) .name ≡ x .found .name
+      kept : (w : Bool) → x .known ≡ true
+          → cond w (proceeded (x .found)) (withId 3 (placedAt (x .port) (foundOrNew x))) .name ≡ x .found .name
       kept true u = refl
       kept false u = found-name u
 
@@ -268,7 +273,8 @@ module _ (s : State) (i : Input) (h : sound s ≡ true) where
           at-port false = omega arith
       fits false e f = port-given-fits (f e)
 
-      at : (w : Bool) → eqb (cancelAt x) 0 ≡ w → cancelAt x ≤ length (s .ports) → Still s (cancelAt x) (cond w noPort (toUnload (cancelPort x)))
+      at : (w : Bool) → eqb (cancelAt x) 0 ≡ w → cancelAt x ≤ length (s .ports)
+          → Still s (cancelAt x) (cond w noPort (toUnload (cancelPort x)))
       at true e b = rw (eqb-true (cancelAt x) 0 e) (still-none s)
       at false e b = let z = eqb-false (cancelAt x) 0 e in still-in s (cancelAt x) _ (omega arith) b
 
@@ -346,13 +352,16 @@ module _ (s : State) (i : Input) (h : sound s ≡ true) where
   move-in-apt = record {
     fine = λ e.
         let k = clear (moveIn x .grounds) refl e in
-        both-apt s (x .port) _ (x .holds) _ (given-port (k .0) _) (is-held (ltb (x .holds) (length (s .carriers))) refl (and-l _ _ (k .1 .1 .1 .0))) refl;
+        both-apt s (x .port) _ (x .holds) _ (given-port (k .0) _)
+        (is-held (ltb (x .holds) (length (s .carriers))) refl (and-l _ _ (k .1 .1 .1 .0))) refl;
   }
     where
       -- nothing tied is nothing verified
-      is-held : (w : Bool) → ltb (x .holds) (length (s .carriers)) ≡ w → atPort (getD (s .carriers) (x .holds) noCarrier) ≡ true → x .holds < length (s .carriers)
+      is-held : (w : Bool) → ltb (x .holds) (length (s .carriers)) ≡ w
+          → atPort (getD (s .carriers) (x .holds) noCarrier) ≡ true → x .holds < length (s .carriers)
       is-held true q v = ltb-true (x .holds) (length (s .carriers)) q
-      is-held false q v = clash (rw (List·getD-eq-default (s .carriers) noCarrier (ltb-false (x .holds) (length (s .carriers)) q)) at v) refl
+      is-held false q v =
+          clash (rw (List·getD-eq-default (s .carriers) noCarrier (ltb-false (x .holds) (length (s .carriers)) q)) at v) refl
 
   open-apt : Fine s (openRow x)
   open-apt = record { fine = λ e. stands-both 0 noPort _ (clear (openRow x .grounds) refl e .1 .0) (still-none s) refl }
@@ -397,7 +406,8 @@ module _ (s : State) (i : Input) (h : sound s ≡ true) where
       (one-of (eqb n 16) id-read-apt (one-of (eqb n 17) id-read-failed-apt (one-of (eqb n 18) move-in-apt
       (one-of (eqb n 19) open-apt (one-of (eqb n 20) slot-map-apt (one-of (eqb n 21) access-start-apt
       (one-of (eqb n 22) access-end-apt (one-of (eqb n 23) close-apt (one-of (eqb n 24) unload-start-apt
-      (one-of (eqb n 25) unload-done-apt (one-of (eqb n 26) unload-fail-apt (record { fine = λ e. absurd (omega arith) }))))))))))))))))))))))))))
+      (one-of (eqb n 25) unload-done-apt (one-of (eqb n 26) unload-fail-apt
+      (record { fine = λ e. absurd (omega arith) }))))))))))))))))))))))))))
 
   pub apt : (n : ℕ) → judge (rowOf n x .grounds) ≡ 0 → Apt s (rowOf n x .effect)
   apt n = rows-apt n .fine

@@ -148,7 +148,8 @@ module _ (s : State) (i : Input) where
       wait (inl x) = mapped-before h (c .name) (b .waits x)
       wait (inr x) = mapped-now h (c .name) x
 
-      ok-slot : (slotOk c ≡ true) ⊎ ((slotWaits c ≡ true) × (does s i (i .number) 5 (c .name) ≡ true)) → released (c .name) (event ∷ h) ≡ true
+      ok-slot : (slotOk c ≡ true) ⊎ ((slotWaits c ≡ true) × (does s i (i .number) 5 (c .name) ≡ true))
+          → released (c .name) (event ∷ h) ≡ true
       ok-slot (inl x) = released-before h (c .name) (b .okSlot x)
       ok-slot (inr x) = released-now h (c .name) (x .1) (b .waits (x .0))
 

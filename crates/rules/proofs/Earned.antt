@@ -58,7 +58,8 @@ module _ (s₀ : State) (none : s₀ .carriers ≡ []) (sound-reached : (run : L
     told-old : (c after : Carrier) → isLive s (c .name) ≡ true → after .name ≡ c .name → Told earlier c → Traces s i (i .number) c after
         → Told (i ∷ earlier) after
     told-old c after l q b t =
-        subst (λ h. Backed h after) (sym (longer (after .name) (c .name) q l)) (backed-after s i (history s₀ earlier (c .name)) c after q b t)
+        subst (λ h. Backed h after) (sym (longer (after .name) (c .name) q l))
+        (backed-after s i (history s₀ earlier (c .name)) c after q b t)
 
     told-new : (c : Carrier) → isLive s (c .name) ≡ false → Born s i (i .number) c → Told (i ∷ earlier) c
     unfolding history

@@ -65,7 +65,8 @@ zero-port q e =
 
 carrier-of : (x : Carrier) {b c d e f g i j k : ℕ} {n : Name} {m : List ℕ} → x .name ≡ n → x .place ≡ b → x .spot ≡ c
     → x .port ≡ d → x .opened ≡ e → x .cancelled ≡ f → x .cameout ≡ g → x .map ≡ m → x .id ≡ i → x .slot ≡ j → x .accessing ≡ k
-    → x ≡ record { name = n; place = b; spot = c; port = d; opened = e; cancelled = f; cameout = g; map = m; id = i; slot = j; accessing = k }
+    → x
+    ≡ record { name = n; place = b; spot = c; port = d; opened = e; cancelled = f; cameout = g; map = m; id = i; slot = j; accessing = k }
 carrier-of x n b c d e f g m i j k = rw (sym n, sym b, sym c, sym d, sym e, sym f, sym g, sym m, sym i, sym j, sym k)
 
 pub zero-carrier : (x : Carrier) → zeroCarrier x ≡ true → x ≡ noCarrier

@@ -21,7 +21,9 @@ use Rattle.records.specs.Ports.{noPort, idle, blocked, loading, hasPod}
 use Rattle.records.specs.Carriers.{noCarrier, expected, atPort, inBuffer, untied, isOpen}
 use Rattle.rules.specs.declared.row.Effect.{Effect}
 use Rattle.rules.specs.State.{State, spotOf, portOf, recordOf}
-use Rattle.rules.specs.Sound.{portInRange, spotInRange, statusInRange, carrierInRange, inRange, otherName, tieKept, tieHeld, portTieHeld, tiesAgree, placeAgrees, otherSpot, fewExpected, portAgrees, openAgrees, sound}
+use Rattle.rules.specs.Sound.{portInRange, spotInRange, statusInRange, carrierInRange, inRange, otherName}
+use Rattle.rules.specs.Sound.{tieKept, tieHeld, portTieHeld, tiesAgree, placeAgrees, otherSpot, fewExpected}
+use Rattle.rules.specs.Sound.{portAgrees, openAgrees, sound}
 use Rattle.rules.specs.Row.{enact}
 use Rattle.rules.proofs.Names.{name-is, name-same, name-sym}
 use Rattle.rules.proofs.Apt.{Apt}
@@ -173,7 +175,8 @@ module _ (s : State) (f : Facts s) (e : Effect) (a : Apt s e) where
       at : (j : ℕ) → j < length (s .carriers) → j ≢ e .goes → Dec (j ≡ e .changes)
           → t (getD (set (s .carriers) (e .changes) (e .next)) j noCarrier) ≡ true
       at j b n (yes z) = rw (z, getD-set-same (s .carriers) (e .changes) (e .next) noCarrier (rw z at b)) (new (inr (rw z at b)))
-      at j b n (no d) = rw (getD-set-other (s .carriers) (e .changes) j (e .next) noCarrier d) (old j (record { live = b; here = n; same = d }))
+      at j b n (no d) =
+          rw (getD-set-other (s .carriers) (e .changes) j (e .next) noCarrier d) (old j (record { live = b; here = n; same = d }))
 
   -- every two
   pub two-after : (t : Carrier → Carrier → Bool) → ((x y : Carrier) → t x y ≡ true → t y x ≡ true)
@@ -190,18 +193,30 @@ module _ (s : State) (f : Facts s) (e : Effect) (a : Apt s e) where
       (λ j b n. last m j (rw (length-set (s .carriers) (e .changes) (e .next)) at b) n))
     where
       at : (i j : ℕ) → i ≢ j → j < length (s .carriers) → i < j → i ≢ e .goes → j ≢ e .goes → Dec (i ≡ e .changes) → Dec (j ≡ e .changes)
-          → t (getD (set (s .carriers) (e .changes) (e .next)) i noCarrier) (getD (set (s .carriers) (e .changes) (e .next)) j noCarrier) ≡ true
+          → t (getD (set (s .carriers) (e .changes) (e .next)) i noCarrier)
+          (getD (set (s .carriers) (e .changes) (e .next)) j noCarrier) ≡ true
       at i j d b l m n (yes z) (yes y) = absurd (d (z ∙ sym y))
       at i j d b l m n (yes z) (no y) =
           let c : e .changes < length (s .carriers) = omega arith in
-          rw (z, getD-set-same (s .carriers) (e .changes) (e .next) noCarrier c, getD-set-other (s .carriers) (e .changes) j (e .next) noCarrier y)
+          rw (
+            z,
+            getD-set-same (s .carriers) (e .changes) (e .next) noCarrier c,
+            getD-set-other (s .carriers) (e .changes) j (e .next) noCarrier y,
+          )
           (turn _ _ (new (inr c) j (record { live = b; here = n; same = y })))
       at i j d b l m n (no z) (yes y) =
           let c : e .changes < length (s .carriers) = omega arith in
-          rw (y, getD-set-same (s .carriers) (e .changes) (e .next) noCarrier c, getD-set-other (s .carriers) (e .changes) i (e .next) noCarrier z)
+          rw (
+            y,
+            getD-set-same (s .carriers) (e .changes) (e .next) noCarrier c,
+            getD-set-other (s .carriers) (e .changes) i (e .next) noCarrier z,
+          )
           (new (inr c) i (record { live = omega arith; here = m; same = z }))
       at i j d b l m n (no z) (no y) =
-          rw (getD-set-other (s .carriers) (e .changes) i (e .next) noCarrier z, getD-set-other (s .carriers) (e .changes) j (e .next) noCarrier y)
+          rw (
+            getD-set-other (s .carriers) (e .changes) i (e .next) noCarrier z,
+            getD-set-other (s .carriers) (e .changes) j (e .next) noCarrier y,
+          )
           (old i j (record { live = omega arith; here = m; same = z }) (record { live = b; here = n; same = y }) d)
 
       -- a new record changes no other
@@ -281,7 +296,8 @@ module _ (s : State) (f : Facts s) (e : Effect) (a : Apt s e) where
             go true q = refl
             go false q = rw (ne-eqb m n (d (eqb-false m 0 q)))
 
-        turn : (x y : Carrier) → (eqb (x .spot) 0 || not (eqb (x .spot) (y .spot))) ≡ true → (eqb (y .spot) 0 || not (eqb (y .spot) (x .spot))) ≡ true
+        turn : (x y : Carrier) → (eqb (x .spot) 0 || not (eqb (x .spot) (y .spot))) ≡ true
+            → (eqb (y .spot) 0 || not (eqb (y .spot) (x .spot))) ≡ true
         turn x y q = apart (y .spot) (x .spot) (λ n z. n (z ∙ go (eqb (x .spot) 0) refl (rw (eq-eqb (x .spot) (y .spot) (sym z)) at q)))
           where
             go : (w : Bool) → eqb (x .spot) 0 ≡ w → (w || false) ≡ true → x .spot ≡ 0
@@ -340,7 +356,9 @@ module _ (s : State) (f : Facts s) (e : Effect) (a : Apt s e) where
         there d j b q (no g) (no c) = any-stays (λ c. eqb (c .port) p) j (record { live = b; here = g; same = c }) (eq-eqb _ p q)
 
         go : Dec (p ≡ e .port) → any (λ c. eqb (c .port) p) (enact e s .carriers) ≡ true
-        go (yes z) = here z (k .holder (λ y. omega arith) (λ y. n (ap (λ q. portOf (enact e s) q .tie) z ∙ ap (λ (q : Port). q .tie) port-after ∙ y)))
+        go (yes z) =
+            here z
+            (k .holder (λ y. omega arith) (λ y. n (ap (λ q. portOf (enact e s) q .tie) z ∙ ap (λ (q : Port). q .tie) port-after ∙ y)))
         go (no d) =
             let t = f .held p l (λ y. n (ap (λ (q : Port). q .tie) (other-port-after p d) ∙ y)) in
             there d (t .0) (t .1) (t .2) (ℕ-discrete (t .0) (e .goes)) (ℕ-discrete (t .0) (e .changes))
@@ -382,7 +400,8 @@ module _ (s : State) (f : Facts s) (e : Effect) (a : Apt s e) where
     unfolding sound
     keeps-sound =
         and-i (and-i (and-i (and-i (and-i (and-i (and-i in-range names-after) ties-after)
-        (every-after placeAgrees (λ j h. place-agrees _ _ _ (f .records j (h .live) .stands)) (λ n. place-agrees _ _ _ (k .fits n .stands))))
+        (every-after placeAgrees (λ j h. place-agrees _ _ _ (f .records j (h .live) .stands))
+        (λ n. place-agrees _ _ _ (k .fits n .stands))))
         spots-after) few-after) (every-all portAgrees _ noPort (λ j b. port-agrees _ (each-port-fits j))))
         (every-after (λ c. openAgrees (portOf (enact e s) (c .port)) c)
         (λ j h. open-agrees _ _ (stays-shown j h)) (λ n. open-agrees _ _ (k .shown n)))

@@ -28,7 +28,9 @@ use Rattle.rules.proofs.Apt.{Apt}
 use Rattle.rules.proofs.SoundParts.{PortFits, Stands, Fits, Facts}
 use Rattle.rules.proofs.Keep.{Stays, Keeps}
 use Rattle.rules.proofs.KeepShapes.{Good, arrives-keeps, calm-keeps, leaves-keeps, announced-keeps}
-use Rattle.rules.proofs.KeepSeen.{new-fits, given-range, here-fits, name-fits, found-live, found-fits, found-named, held-live, held-tied, held-placed, holds-none, nobody-tied, only-held, has-room, spot-free, either-fits, either-named, either-shut}
+use Rattle.rules.proofs.KeepSeen.{new-fits, given-range, here-fits, name-fits, found-live, found-fits}
+use Rattle.rules.proofs.KeepSeen.{found-named, held-live, held-tied, held-placed, holds-none, nobody-tied}
+use Rattle.rules.proofs.KeepSeen.{only-held, has-room, spot-free, either-fits, either-named, either-shut}
 use Rattle.rules.proofs.KeepPorts.{marked-fits, emptied-fits}
 use Rattle.rules.proofs.KeepRecords.{shut}
 
@@ -269,8 +271,10 @@ module _ (s : State) (i : Input) (f : Facts s) where
   }
     where
       go : (w : Bool) → x .tied ≡ w → (1 ≤ x .port) × (x .port ≤ length (s .ports))
-          → Apt s (onBoth (x .count) (x .port) (tagNotRead (x .here)) (x .holds) (cond w (withId 2 (placedAt (x .port) (x .held))) noCarrier))
-          → Keeps s (onBoth (x .count) (x .port) (tagNotRead (x .here)) (x .holds) (cond w (withId 2 (placedAt (x .port) (x .held))) noCarrier))
+          → Apt s (onBoth (x .count) (x .port) (tagNotRead (x .here)) (x .holds)
+          (cond w (withId 2 (placedAt (x .port) (x .held))) noCarrier))
+          → Keeps s (onBoth (x .count) (x .port) (tagNotRead (x .here)) (x .holds)
+          (cond w (withId 2 (placedAt (x .port) (x .held))) noCarrier))
       go true t r a =
           let b = held-live s i f t in
           let h = f .records (x .holds) b in

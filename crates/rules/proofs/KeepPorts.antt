@@ -85,7 +85,9 @@ module _ (s : State) (i : Input) (f : Facts s) where
     where
       go : (o : Bool) → goesOut x ≡ o → (c : Bool) → comesIn x ≡ c → v ≡ cond o 0 (cond c 1 (x .here .transfer))
           → (v ≡ x .here .transfer) ⊎ ((v ≤ 1) × (x .here .transfer ≤ 1))
-      go true p c q z = let r = eqb-true (x .here .transfer) 1 (ready (readyToLoad (x .here)) refl (rw p at k)) in inr (omega arith, omega arith)
+      go true p c q z =
+          let r = eqb-true (x .here .transfer) 1 (ready (readyToLoad (x .here)) refl (rw p at k)) in
+          inr (omega arith, omega arith)
         where
           ready : (w : Bool) → readyToLoad (x .here) ≡ w → not (readyToLoad (x .here)) ≡ false → readyToLoad (x .here) ≡ true
           ready true r t = r
@@ -93,7 +95,8 @@ module _ (s : State) (i : Input) (f : Facts s) where
       go false p true q z = let r = eqb-true (x .here .transfer) 0 (and-l _ _ q) in inr (omega arith, omega arith)
       go false p false q z = inl z
 
-  served-fits : (v : ℕ) → PortFits (x .here) → (v ≡ x .here .transfer) ⊎ ((v ≤ 1) × (x .here .transfer ≤ 1)) → PortFits (withTransfer v (x .here))
+  served-fits : (v : ℕ) → PortFits (x .here) → (v ≡ x .here .transfer) ⊎ ((v ≤ 1) × (x .here .transfer ≤ 1))
+      → PortFits (withTransfer v (x .here))
   served-fits v h c = record {
     transfer = range c;
     access = h .access;
@@ -137,7 +140,8 @@ module _ (s : State) (i : Input) (f : Facts s) where
   reserve-at-port-keeps = record {
     good = λ e _.
         let h = f .ports (x .port) in
-        calm-keeps s f (x .port) _ (marked-fits _ h (h .access) (omega arith) (h .tie) (h .tag)) (record { tie = refl; quiet = λ a b. (a, b) });
+        calm-keeps s f (x .port) _ (marked-fits _ h (h .access) (omega arith) (h .tie) (h .tag))
+        (record { tie = refl; quiet = λ a b. (a, b) });
   }
 
   pub cancel-reservation-at-port-keeps : Good s (cancelReservationAtPort x)
@@ -145,7 +149,8 @@ module _ (s : State) (i : Input) (f : Facts s) where
   cancel-reservation-at-port-keeps = record {
     good = λ e _.
         let h = f .ports (x .port) in
-        calm-keeps s f (x .port) _ (marked-fits _ h (h .access) (omega arith) (h .tie) (h .tag)) (record { tie = refl; quiet = λ a b. (a, b) });
+        calm-keeps s f (x .port) _ (marked-fits _ h (h .access) (omega arith) (h .tie) (h .tag))
+        (record { tie = refl; quiet = λ a b. (a, b) });
   }
 
   -- ── Rows 13 to 15 and 24 to 26 ────────────────────────────────────────────────────────────

@@ -150,7 +150,8 @@ module _ (s : State) (i : Input) (f : Facts s) where
     where
       go : (w : Bool) → leavesPort x ≡ w → x .known ≡ true → isOpen (x .found) ≡ true
           → Apt s (onBoth (x .count) (cond w (x .found .port) 0) (cond w (toUnload (x .home)) noPort) (x .stands) (withOpened 0 (x .found)))
-          → Keeps s (onBoth (x .count) (cond w (x .found .port) 0) (cond w (toUnload (x .home)) noPort) (x .stands) (withOpened 0 (x .found)))
+          → Keeps s (onBoth (x .count) (cond w (x .found .port) 0) (cond w (toUnload (x .home)) noPort)
+          (x .stands) (withOpened 0 (x .found)))
       go true q u o a =
           let b = found-live s i f u in
           let p = eqb-true (x .found .place) 1 (and-l _ _ q) in
@@ -161,7 +162,8 @@ module _ (s : State) (i : Input) (f : Facts s) where
           (unload-fits (x .home) (r .1) (home-fits s i f)) refl (opened-fits _ _ 0 _ (omega arith) (found-fits s i f u))
           (record { name = refl; place = refl; spot = refl; port = refl }) (λ z. shut z)
       go false q u o a =
-          record-keeps s f (x .stands) (withOpened 0 (x .found)) a (found-live s i f u) (opened-fits _ _ 0 _ (omega arith) (found-fits s i f u))
+          record-keeps s f (x .stands) (withOpened 0 (x .found)) a (found-live s i f u)
+          (opened-fits _ _ 0 _ (omega arith) (found-fits s i f u))
           (record { name = refl; place = refl; spot = refl; port = refl }) (λ z. shut z)
 
   pub carrier-in-keeps : Good s (carrierIn x)

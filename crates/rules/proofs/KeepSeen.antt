@@ -158,7 +158,8 @@ module _ (s : State) (i : Input) (f : Facts s) where
   pub nobody-tied : x .tied ≡ false → 1 ≤ x .port → (j : ℕ) → j < length (s .carriers) → recordOf s j .port ≢ x .port
   unfolding see recordOf tieStands
   nobody-tied e a j b z =
-      clash (and-i (le-leb 1 (x .port) a) (eq-eqb _ (x .port) z)) (nowhere (isTiedTo (x .port)) (s .carriers) noCarrier (ltb-false _ _ e) j b)
+      clash (and-i (le-leb 1 (x .port) a) (eq-eqb _ (x .port) z))
+      (nowhere (isTiedTo (x .port)) (s .carriers) noCarrier (ltb-false _ _ e) j b)
 
   -- no other is tied to the port given
   pub only-held : 1 ≤ x .port → (j : ℕ) → j < length (s .carriers) → j ≢ x .holds → recordOf s j .port ≢ x .port
@@ -201,7 +202,8 @@ module _ (s : State) (i : Input) (f : Facts s) where
   unfolding see placed foundOrNew
   either-shut n o = go (x .known) refl n o
     where
-      go : (w : Bool) → x .known ≡ w → (w && not (expected (x .found))) ≡ false → isOpen (cond w (x .found) (newCarrier (x .name) 0)) ≡ true → ⊥
+      go : (w : Bool) → x .known ≡ w → (w && not (expected (x .found))) ≡ false
+          → isOpen (cond w (x .found) (newCarrier (x .name) 0)) ≡ true → ⊥
       go true e n o =
           let z = eqb-true (x .found .place) 0 (not-false _ n) in
           let r = f .shown (x .stands) (found-live e) o (λ y. omega arith) in

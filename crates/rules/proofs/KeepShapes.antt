@@ -94,7 +94,8 @@ module _ (s : State) (f : Facts s) where
 
   -- ── A record changes where it stands ──────────────────────────────────────────────────────
   pub record-keeps : (k : ℕ) (c : Carrier) → Apt s (onRecord (length (s .carriers)) k c) → k < length (s .carriers)
-      → Fits (length (s .ports)) (s .places) c → Alike (recordOf s k) c → Shown (portOf s (c .port)) c → Keeps s (onRecord (length (s .carriers)) k c)
+      → Fits (length (s .ports)) (s .places) c → Alike (recordOf s k) c → Shown (portOf s (c .port)) c
+      → Keeps s (onRecord (length (s .carriers)) k c)
   record-keeps k c a b h l o = record {
     port = no-port-fits;
     calm = λ _ _ n. absurd (n refl);

@@ -24,7 +24,8 @@ use Rattle.rules.proofs.Apt.{Apt}
 use Rattle.rules.proofs.SoundParts.{PortFits, Fits, Facts}
 use Rattle.rules.proofs.Keep.{Keeps}
 use Rattle.rules.proofs.KeepShapes.{Good, record-keeps, both-keeps}
-use Rattle.rules.proofs.KeepSeen.{given-range, here-fits, home-fits, name-fits, found-live, found-fits, nobody-tied, either-fits, either-named, either-shut, placed-known}
+use Rattle.rules.proofs.KeepSeen.{given-range, here-fits, home-fits, name-fits, found-live, found-fits}
+use Rattle.rules.proofs.KeepSeen.{nobody-tied, either-fits, either-named, either-shut, placed-known}
 use Rattle.rules.proofs.KeepPorts.{marked-fits}
 use Rattle.rules.proofs.KeepRecords.{unload-fits, shut}
 use Rattle.rules.proofs.KeepArrivals.{placed-fits, coming-keeps}
@@ -167,7 +168,8 @@ module _ (s : State) (i : Input) (f : Facts s) where
     made = m;
   }
 
-  idle-home : (not (placed x) || canCancel x (x .found) (x .home)) ≡ true → placed x ≡ true → atPort (x .found) ≡ true → idle (x .home) ≡ true
+  idle-home : (not (placed x) || canCancel x (x .found) (x .home)) ≡ true → placed x ≡ true → atPort (x .found) ≡ true
+      → idle (x .home) ≡ true
   unfolding canCancel
   idle-home e p a =
       let c = or-other (not (placed x)) (canCancel x (x .found) (x .home)) e (rw p) in
@@ -178,12 +180,15 @@ module _ (s : State) (i : Input) (f : Facts s) where
   cancel-carrier-keeps = record {
     good = λ e a.
         let k = clear (cancelCarrier x .grounds) refl e in
-        go (placed x) refl (atPort (x .found)) refl (eqb (cancelAt x) 0) refl (not (x .known)) refl (k .0) (pod-there (k .1 .1 .0) (k .1 .1 .1 .0))
+        go (placed x) refl (atPort (x .found)) refl (eqb (cancelAt x) 0) refl (not (x .known)) refl (k .0)
+        (pod-there (k .1 .1 .0) (k .1 .1 .1 .0))
         (found-untied (k .1 .1 .1 .0)) (idle-home (k .1 .1 .1 .1 .0)) a;
   }
     where
-      go : (w : Bool) → placed x ≡ w → (v : Bool) → atPort (x .found) ≡ v → (z : Bool) → eqb (cond w (cond v (x .found .port) 0) (x .port)) 0 ≡ z
-          → (m : Bool) → not (x .known) ≡ m → x .named ≡ true → (placed x ≡ false → Pod) → (placed x ≡ false → x .known ≡ true → x .found .port ≡ 0)
+      go : (w : Bool) → placed x ≡ w → (v : Bool) → atPort (x .found) ≡ v
+          → (z : Bool) → eqb (cond w (cond v (x .found .port) 0) (x .port)) 0 ≡ z
+          → (m : Bool) → not (x .known) ≡ m → x .named ≡ true → (placed x ≡ false → Pod)
+          → (placed x ≡ false → x .known ≡ true → x .found .port ≡ 0)
           → (placed x ≡ true → atPort (x .found) ≡ true → idle (x .home) ≡ true)
           → Apt s (cancelling w v z m) → Keeps s (cancelling w v z m)
       go true p v c z y true q n d t l a = clash {b = x .known} (placed-known s i f p) (not-true (x .known) q)

@@ -52,7 +52,8 @@ first-is-lowest m (g ∷ gs) p h =
     let r = and-r (leb m (numberOf g)) _ h in
     go g (omega arith) r (first-is-lowest (numberOf g) gs (omega arith) r)
   where
-    go : (g : Ground) → 1 ≤ numberOf g → risingFrom (numberOf g) gs ≡ true → judge gs ≡ lowest gs → judge (g ∷ gs) ≡ lower (given g) (lowest gs)
+    go : (g : Ground) → 1 ≤ numberOf g → risingFrom (numberOf g) gs ≡ true
+        → judge gs ≡ lowest gs → judge (g ∷ gs) ≡ lower (given g) (lowest gs)
     go (when true k) q r e = lower-first k (lowest gs) q (λ n. rw e at (bound k gs r q (λ z. n (sym e ∙ z))))
     go (when false k) q r e = e
     go (unless true k) q r e = e

@@ -55,11 +55,13 @@ module _ (s : State) (h : sound s ≡ true) where
       go : (w : Bool) → ltb k (length (s .carriers)) ≡ w → getD (s .carriers) k noCarrier .port ≤ length (s .ports)
       go true e =
           leb-true _ _
-          (let o = every-at _ (s .carriers) noCarrier each-in-range k (ltb-true k (length (s .carriers)) e) in search (and-l, and-r) depth 13)
+          (let o = every-at _ (s .carriers) noCarrier each-in-range k (ltb-true k (length (s .carriers)) e) in
+          search (and-l, and-r) depth 13)
       go false e = rw (List·getD-eq-default (s .carriers) noCarrier (ltb-false k (length (s .carriers)) e)) (omega arith)
 
   -- a record placed at a port is tied to one
-  pub placed-tied : (k : ℕ) → k < length (s .carriers) → atPort (getD (s .carriers) k noCarrier) ≡ true → 1 ≤ getD (s .carriers) k noCarrier .port
+  pub placed-tied : (k : ℕ) → k < length (s .carriers) → atPort (getD (s .carriers) k noCarrier) ≡ true
+      → 1 ≤ getD (s .carriers) k noCarrier .port
   unfolding sound placeAgrees
   placed-tied k b a =
       let o = every-at placeAgrees (s .carriers) noCarrier (search (and-l, and-r) depth 9) k b in

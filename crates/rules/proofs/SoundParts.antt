@@ -18,7 +18,9 @@ use Rattle.records.specs.Maps.{isCode}
 use Rattle.records.specs.Ports.{noPort, idle, blocked, loading}
 use Rattle.records.specs.Carriers.{noCarrier, expected, atPort, inBuffer, untied, isOpen}
 use Rattle.rules.specs.State.{State, spotOf, portOf, recordOf}
-use Rattle.rules.specs.Sound.{portInRange, spotInRange, statusInRange, carrierInRange, inRange, tieKept, tieHeld, portTieHeld, tiesAgree, placeAgrees, otherSpot, fewExpected, portAgrees, openAgrees, sound}
+use Rattle.rules.specs.Sound.{portInRange, spotInRange, statusInRange, carrierInRange, inRange, tieKept, tieHeld}
+use Rattle.rules.specs.Sound.{portTieHeld, tiesAgree, placeAgrees, otherSpot, fewExpected, portAgrees, openAgrees}
+use Rattle.rules.specs.Sound.{sound}
 use Rattle.rules.proofs.Names.{name-is, name-same}
 use Rattle.rules.proofs.SoundFacts.{distinct}
 
@@ -206,7 +208,8 @@ module _ (s : State) (h : sound s ≡ true) where
       → portOf s (getD (s .carriers) k noCarrier .port) .tie ≡ getD (s .carriers) k noCarrier .name
   unfolding sound tiesAgree tieKept
   each-kept k b n =
-      name-is _ _ (or-other _ _ (every-at (λ c. tieKept (portOf s (c .port)) c) (s .carriers) noCarrier (search (and-l, and-r) depth 12) k b)
+      name-is _ _ (or-other _ _
+      (every-at (λ c. tieKept (portOf s (c .port)) c) (s .carriers) noCarrier (search (and-l, and-r) depth 12) k b)
       (ne-eqb _ 0 n))
 
   -- a port beyond the four has no tie
@@ -221,7 +224,8 @@ module _ (s : State) (h : sound s ≡ true) where
       → (k : ℕ) × (k < length (s .carriers)) × (getD (s .carriers) k noCarrier .port ≡ p)
   unfolding tieHeld
   held-at p e n =
-      let t = any-found (λ c. eqb (c .port) p) (s .carriers) noCarrier (or-other _ _ e (no-name (sameName (portOf s p .tie) noName) refl)) in
+      let t = any-found (λ c. eqb (c .port) p) (s .carriers) noCarrier
+      (or-other _ _ e (no-name (sameName (portOf s p .tie) noName) refl)) in
       (t .0, t .1, eqb-true _ p (t .2))
     where
       no-name : (w : Bool) → sameName (portOf s p .tie) noName ≡ w → w ≡ false
@@ -235,7 +239,8 @@ module _ (s : State) (h : sound s ≡ true) where
   each-held (suc (suc zero)) a n = held-at 2 (search (and-l, and-r) depth 12) n
   each-held (suc (suc (suc zero))) a n = held-at 3 (search (and-l, and-r) depth 12) n
   each-held (suc (suc (suc (suc zero)))) a n = held-at 4 (search (and-l, and-r) depth 12) n
-  each-held (suc (suc (suc (suc (suc p))))) a n = absurd (n (ap (λ (q : Port). q .tie) (far-port (suc (suc (suc (suc (suc p))))) (omega arith))))
+  each-held (suc (suc (suc (suc (suc p))))) a n =
+      absurd (n (ap (λ (q : Port). q .tie) (far-port (suc (suc (suc (suc (suc p))))) (omega arith))))
 
   names-apart : (j k : ℕ) → j < length (s .carriers) → k < length (s .carriers)
       → getD (s .carriers) j noCarrier .name ≡ getD (s .carriers) k noCarrier .name → j ≡ k
@@ -249,7 +254,8 @@ module _ (s : State) (h : sound s ≡ true) where
       → getD (s .carriers) j noCarrier .spot ≢ getD (s .carriers) k noCarrier .spot
   unfolding sound otherSpot
   later-spot j k a b n =
-      eqb-false _ _ (not-true _ (or-other _ _ (two-at otherSpot (s .carriers) noCarrier (search (and-l, and-r) depth 12) j k a b) (ne-eqb _ 0 n)))
+      eqb-false _ _ (not-true _
+      (or-other _ _ (two-at otherSpot (s .carriers) noCarrier (search (and-l, and-r) depth 12) j k a b) (ne-eqb _ 0 n)))
 
   spots-apart : (j k : ℕ) → j < length (s .carriers) → k < length (s .carriers) → getD (s .carriers) j noCarrier .spot ≢ 0
       → getD (s .carriers) j noCarrier .spot ≡ getD (s .carriers) k noCarrier .spot → j ≡ k

@@ -24,9 +24,13 @@ use Rattle.rules.proofs.SoundParts.{Facts, facts}
 use Rattle.rules.proofs.Orderly.{orderly, bounded}
 use Rattle.rules.proofs.Keep.{keeps-sound}
 use Rattle.rules.proofs.KeepShapes.{Good}
-use Rattle.rules.proofs.KeepPorts.{cancel-bind-keeps, cancel-carrier-notification-keeps, change-access-keeps, change-service-status-keeps, reserve-at-port-keeps, cancel-reservation-at-port-keeps, load-start-keeps, load-done-keeps, load-fail-keeps, unload-start-keeps, unload-done-keeps, unload-fail-keeps}
+use Rattle.rules.proofs.KeepPorts.{cancel-bind-keeps, cancel-carrier-notification-keeps, change-access-keeps}
+use Rattle.rules.proofs.KeepPorts.{change-service-status-keeps, reserve-at-port-keeps}
+use Rattle.rules.proofs.KeepPorts.{cancel-reservation-at-port-keeps, load-start-keeps, load-done-keeps}
+use Rattle.rules.proofs.KeepPorts.{load-fail-keeps, unload-start-keeps, unload-done-keeps, unload-fail-keeps}
 use Rattle.rules.proofs.KeepRecords.{carrier-in-keeps, open-keeps, slot-map-keeps, access-start-keeps, access-end-keeps, close-keeps}
-use Rattle.rules.proofs.KeepArrivals.{bind-keeps, carrier-notification-keeps, carrier-out-keeps, id-read-keeps, id-read-failed-keeps, move-in-keeps}
+use Rattle.rules.proofs.KeepArrivals.{bind-keeps, carrier-notification-keeps, carrier-out-keeps, id-read-keeps}
+use Rattle.rules.proofs.KeepArrivals.{id-read-failed-keeps, move-in-keeps}
 use Rattle.rules.proofs.KeepVerdict.{proceed-with-carrier-keeps, cancel-carrier-keeps}
 
 one-of : {s : State} {r q : Row} (b : Bool) → Good s r → Good s q → Good s (cond b r q)

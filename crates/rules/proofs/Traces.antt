@@ -14,7 +14,8 @@ use Rattle.records.specs.declared.port.Port.{Port}
 use Rattle.records.specs.declared.carrier.Carrier.{Carrier}
 use Rattle.records.specs.Names.{inBytes, sameName}
 use Rattle.records.specs.Ports.{readyToUnload}
-use Rattle.records.specs.Carriers.{noCarrier, newCarrier, isOpen, isCancelled, atPort, idWaits, idOk, slotWaits, slotOk, slotFailed, placedAt, proceeded, judgedNo, cancelledBy}
+use Rattle.records.specs.Carriers.{noCarrier, newCarrier, isOpen, isCancelled, atPort, idWaits, idOk, slotWaits, slotOk}
+use Rattle.records.specs.Carriers.{slotFailed, placedAt, proceeded, judgedNo, cancelledBy}
 use Rattle.records.specs.Fields.{withId}
 use Rattle.rules.specs.declared.row.Seen.{Seen}
 use Rattle.rules.specs.declared.row.Effect.{Effect}
@@ -116,7 +117,8 @@ module _ (s : State) (i : Input) (h : sound s ≡ true) (a : eqb (answerIn s i) 
   unfolding see recordOf nameStands
   found-named u = name-sym _ _ ∙ where-holds (isNamed (inBytes (i .name))) (s .carriers) noCarrier (stands-in s i h u)
 
-  other-named : (j : ℕ) → j < length (s .carriers) → j ≢ x .stands → sameName (getD (s .carriers) j noCarrier .name) (inBytes (i .name)) ≡ false
+  other-named : (j : ℕ) → j < length (s .carriers) → j ≢ x .stands
+      → sameName (getD (s .carriers) j noCarrier .name) (inBytes (i .name)) ≡ false
   unfolding see recordOf
   other-named j b n = go (x .known) refl
     where
@@ -174,11 +176,13 @@ module _ (s : State) (i : Input) (h : sound s ≡ true) (a : eqb (answerIn s i) 
       id-by u true z = inr (done-to-found u)
       id-by u false z = inl z
 
-      waits-by : (w : Bool) → eqb (cond w (x .found .slot) 3) 2 ≡ true → (slotWaits (x .found) ≡ true) ⊎ (does s i 5 20 (x .found .name) ≡ true)
+      waits-by : (w : Bool) → eqb (cond w (x .found .slot) 3) 2 ≡ true
+          → (slotWaits (x .found) ≡ true) ⊎ (does s i 5 20 (x .found .name) ≡ true)
       waits-by true z = inl z
       waits-by false z = clash z refl
 
-      slot-by : x .known ≡ true → (w : Bool) → (w || (idOk (x .found) && slotWaits (x .found))) ≡ true → eqb (cond w (x .found .slot) 3) 3 ≡ true
+      slot-by : x .known ≡ true → (w : Bool) → (w || (idOk (x .found) && slotWaits (x .found))) ≡ true
+          → eqb (cond w (x .found .slot) 3) 3 ≡ true
           → (slotOk (x .found) ≡ true) ⊎ ((slotWaits (x .found) ≡ true) × (does s i 5 5 (x .found .name) ≡ true))
       slot-by u true o z = inl z
       slot-by u false o z = inr (and-r (idOk (x .found)) _ o, done-to-found u)
@@ -280,7 +284,9 @@ module _ (s : State) (i : Input) (h : sound s ≡ true) (a : eqb (answerIn s i) 
 
   id-read-trail : Fine s i 16 (idRead x)
   id-read-trail = record {
-    fine = λ e. named-or-new 16 _ _ _ _ (λ j _ _. refl) (λ u. rw (found-is u) (kept (clear (idRead x .grounds) refl e .0) u)) (λ u. rw (unmatched u, new-is u) new);
+    fine = λ e. named-or-new 16 _ _ _ _ (λ j _ _. refl)
+        (λ u. rw (found-is u) (kept (clear (idRead x .grounds) refl e .0) u))
+        (λ u. rw (unmatched u, new-is u) new);
   }
     where
       matched : (w : Bool) → eqb (cond w 3 2) 3 ≡ true → w ≡ true
@@ -289,7 +295,10 @@ module _ (s : State) (i : Input) (h : sound s ≡ true) (a : eqb (answerIn s i) 
 
       kept : x .isport ≡ true → x .known ≡ true → Traces s i 16 (x .found) (withId (cond (matching x) 3 2) (placedAt (x .port) (x .found)))
       kept p u = record {
-        ident = record { okId = λ z. inr (or-l false (and-i (done-to-found u) (read-matches s i h p u (matched (matching x) z)))); boxed = λ z. clash z refl };
+        ident = record {
+          okId = λ z. inr (or-l false (and-i (done-to-found u) (read-matches s i h p u (matched (matching x) z))));
+          boxed = λ z. clash z refl;
+        };
         lid = same-lid refl refl refl;
         slots = same-slots refl refl;
       }

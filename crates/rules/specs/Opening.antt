@@ -3,7 +3,8 @@ use mathlib.Core.Bool.{Bool, not, cond, _&&_, _||_}
 use mathlib.Core.List.{[], _∷_}
 use lib.Dec.{eqb, leb}
 use Rattle.records.specs.Ports.{noPort, idle, blocked, toUnload}
-use Rattle.records.specs.Carriers.{atPort, inBuffer, isOpen, isCancelled, idOk, slotNotRead, slotOk, slotFailed, notAccessed, inAccess, accessEnded, withMap}
+use Rattle.records.specs.Carriers.{atPort, inBuffer, isOpen, isCancelled, idOk, slotNotRead, slotOk, slotFailed}
+use Rattle.records.specs.Carriers.{notAccessed, inAccess, accessEnded, withMap}
 use Rattle.records.specs.Fields.{withOpened, withAccessing}
 use Rattle.rules.specs.declared.row.Seen.{Seen}
 use Rattle.rules.specs.Row.{Row, when, unless, onRecord, onBoth, isChoice}

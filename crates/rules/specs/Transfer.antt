@@ -1,6 +1,7 @@
 -- Rows 13 to 15 and 24 to 26: a pod is loaded at a port, or unloaded from it.
 use mathlib.Core.List.{[], _∷_}
-use Rattle.records.specs.Ports.{readyToLoad, readyToUnload, loading, unloading, startLoad, loaded, notLoaded, startUnload, emptied, notUnloaded}
+use Rattle.records.specs.Ports.{readyToLoad, readyToUnload, loading, unloading, startLoad, loaded, notLoaded}
+use Rattle.records.specs.Ports.{startUnload, emptied, notUnloaded}
 use Rattle.rules.specs.declared.row.Seen.{Seen}
 use Rattle.rules.specs.Row.{Row, unless, onPort, onPortAndGone}
 
