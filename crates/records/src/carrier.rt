@@ -1,6 +1,7 @@
 // A carrier record answers each input with the record that follows it.
 ghost use mathlib.Core.Path.{_≡_};
-ghost use Rattle.records.specs.Carriers.{noCarrier, newCarrier, placedAt, proceeded, judgedNo, cancelledBy, takenOut, takenBack, movedIn, withMap};
+ghost use Rattle.records.specs.Carriers.{noCarrier, newCarrier, placedAt, proceeded, judgedNo, cancelledBy};
+ghost use Rattle.records.specs.Carriers.{takenOut, takenBack, movedIn, withMap};
 ghost use Rattle.records.specs.Fields.{withId, withOpened, withAccessing};
 use crate::choose::first;
 use crate::name::Name;

@@ -1,6 +1,8 @@
 // A port record answers each input with the port that follows it.
 ghost use mathlib.Core.Path.{_≡_};
-ghost use Rattle.records.specs.Ports.{noPort, newPort, boundTo, unbound, toUnload, handedOut, toBlocked, startLoad, loaded, notLoaded, tagRead, tagNotRead, emptied, startUnload, notUnloaded};
+ghost use Rattle.records.specs.Ports.{noPort, newPort, boundTo, unbound, toUnload, handedOut, toBlocked};
+ghost use Rattle.records.specs.Ports.{startLoad, loaded, notLoaded, tagRead, tagNotRead, emptied};
+ghost use Rattle.records.specs.Ports.{startUnload, notUnloaded};
 ghost use Rattle.records.specs.Fields.{tiedTo, withAccess, withTransfer, withReserved};
 use crate::name::Name;
 
