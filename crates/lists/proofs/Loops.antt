@@ -23,7 +23,8 @@ module _ {ℓ} {A : Type ℓ} where
   pub ended-in : (a : List A) (n : ℕ) → n ≤ length a → drop n (take n a) ≡ []
   ended-in a n h = ended (take n a) n (length-take-le n a h)
 
-  pub back-in : (a : List A) (n i : ℕ) (d : A) → 0 < i → i ≤ n → n ≤ length a → drop (i - 1) (take n a) ≡ getD a (i - 1) d ∷ drop i (take n a)
+  pub back-in : (a : List A) (n i : ℕ) (d : A) → 0 < i → i ≤ n → n ≤ length a
+      → drop (i - 1) (take n a) ≡ getD a (i - 1) d ∷ drop i (take n a)
   back-in a n i d p q h =
       let e : length (take n a) ≡ n = length-take-le n a h in
       back (take n a) i d p (omega arith) ∙ ap (λ x. x ∷ drop i (take n a)) (getD-take n a (i - 1) d (omega arith))

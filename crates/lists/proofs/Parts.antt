@@ -90,9 +90,11 @@ module _ {A : Type 0} (f : A → A → Bool) where
   unfolding every everyTwo
   two-last [] x e h = refl
   two-last (y ∷ l) x e h =
-      and-i (every-last (f y) l x (and-l (every (f y) l) _ e) (and-l (f y x) _ h)) (two-last l x (and-r (every (f y) l) _ e) (and-r (f y x) _ h))
+      and-i (every-last (f y) l x (and-l (every (f y) l) _ e) (and-l (f y x) _ h))
+      (two-last l x (and-r (every (f y) l) _ e) (and-r (f y x) _ h))
 
-  pub two-new : (b : Bool) (l : List A) (x : A) → everyTwo f l ≡ true → (b ≡ true → every (λ y. f y x) l ≡ true) → everyTwo f (withNew b x l) ≡ true
+  pub two-new : (b : Bool) (l : List A) (x : A) → everyTwo f l ≡ true → (b ≡ true → every (λ y. f y x) l ≡ true)
+      → everyTwo f (withNew b x l) ≡ true
   two-new true l x e h = two-last l x e (h refl)
   two-new false l x e h = e
 
@@ -122,7 +124,8 @@ module _ {A : Type 0} (f : A → Bool) where
   howMany-last (y ∷ l) x = let r = howMany-last l x in omega arith
 
   -- a new one leaves room for itself
-  pub room-new : (b : Bool) (l : List A) (x : A) (n : ℕ) → howMany f l ≤ n → (b ≡ true → f x ≡ true → howMany f l < n) → howMany f (withNew b x l) ≤ n
+  pub room-new : (b : Bool) (l : List A) (x : A) (n : ℕ) → howMany f l ≤ n → (b ≡ true → f x ≡ true → howMany f l < n)
+      → howMany f (withNew b x l) ≤ n
   room-new true l x n h r = let e = howMany-last l x in go (f x) (r refl) e
     where
       go : (c : Bool) → (c ≡ true → howMany f l < n) → howMany f (l ++ (x ∷ [])) ≡ howMany f l + cond c 1 0 → howMany f (l ++ (x ∷ [])) ≤ n

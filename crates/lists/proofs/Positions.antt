@@ -15,7 +15,8 @@ module _ {A : Type 0} (P : A → Type 0) (d : A) where
   abbrev pub AtEach : List A → Type 0
   AtEach l = (j : ℕ) → j < length l → P (getD l j d)
 
-  pub each-set : (l : List A) (k : ℕ) (y : A) → ((j : ℕ) → j < length l → j ≢ k → P (getD l j d)) → (k < length l → P y) → AtEach (set l k y)
+  pub each-set : (l : List A) (k : ℕ) (y : A) → ((j : ℕ) → j < length l → j ≢ k → P (getD l j d)) → (k < length l → P y)
+      → AtEach (set l k y)
   each-set l k y h p j b = let i : j < length l = simp length-set at b in go (ℕ-discrete j k) i
     where
       go : Dec (j ≡ k) → j < length l → P (getD (set l k y) j d)

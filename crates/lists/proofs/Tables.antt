@@ -48,7 +48,8 @@ module _ {A : Type 0} where
   push-fill (suc n) z (y ∷ l) x = ap (λ r. y ∷ r) (push-fill n z l x)
 
   -- a list copied into a table: one element more, nothing more, all of it
-  pub fill-more : (n : ℕ) (z d : A) (l : List A) (i : ℕ) → i < length l → set (fill n z (take i l)) i (getD l i d) ≡ fill n z (take (i + 1) l)
+  pub fill-more : (n : ℕ) (z d : A) (l : List A) (i : ℕ) → i < length l
+      → set (fill n z (take i l)) i (getD l i d) ≡ fill n z (take (i + 1) l)
   fill-more n z d l i h =
       let e : length (take i l) ≡ i = length-take-le i l (omega arith) in
       rw (add-one, take-suc l i d h) (ap (λ k. set (fill n z (take i l)) k (getD l i d)) (sym e) ∙ push-fill n z (take i l) (getD l i d))
@@ -103,7 +104,8 @@ module _ {A : Type 0} where
   length-without (x ∷ l) (suc k) h = ap suc (length-without l k (le-of-suc-le-suc h))
 
   -- nothing but z after the first n
-  pub tail-is : (f : A → Bool) (z : A) → ((x : A) → f x ≡ true → x ≡ z) → (n : ℕ) (l : List A) → every f (drop n l) ≡ true → l ≡ fill (length l) z (take n l)
+  pub tail-is : (f : A → Bool) (z : A) → ((x : A) → f x ≡ true → x ≡ z) → (n : ℕ) (l : List A) → every f (drop n l) ≡ true
+      → l ≡ fill (length l) z (take n l)
   unfolding every fill
   tail-is f z g zero [] e = refl
   tail-is f z g (suc n) [] e = refl

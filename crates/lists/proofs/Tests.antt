@@ -55,12 +55,14 @@ module _ {A : Type 0} (f : A → Bool) where
       assoc false b c = refl
 
   -- the first position that passes, where it is the only one; past the end where there is none; and back
-  pub where-one : (l : List A) (k : ℕ) (d : A) → k < length l → f (getD l k d) ≡ true → ((j : ℕ) → j < length l → j ≢ k → f (getD l j d) ≡ false) → whereIs f l ≡ k
+  pub where-one : (l : List A) (k : ℕ) (d : A) → k < length l → f (getD l k d) ≡ true
+      → ((j : ℕ) → j < length l → j ≢ k → f (getD l j d) ≡ false) → whereIs f l ≡ k
   unfolding whereIs
   where-one [] k d b e h = absurd (omega arith)
   where-one (x ∷ l) zero d b e h = rw e
   where-one (x ∷ l) (suc k) d b e h =
-      rw (h 0 (omega arith) (omega arith)) (ap suc (where-one l k d (le-of-suc-le-suc b) e (λ j i n. h (suc j) (suc-le-suc i) (omega arith))))
+      rw (h 0 (omega arith) (omega arith))
+      (ap suc (where-one l k d (le-of-suc-le-suc b) e (λ j i n. h (suc j) (suc-le-suc i) (omega arith))))
 
   pub where-not : (l : List A) (d : A) → ((j : ℕ) → j < length l → f (getD l j d) ≡ false) → whereIs f l ≡ length l
   unfolding whereIs

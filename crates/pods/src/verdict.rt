@@ -1,7 +1,8 @@
 // Rows 5 and 6: the host says yes or no to a carrier.
 ghost use mathlib.Core.Path.{_≡_};
 ghost use Rattle.rules.specs.Row.{judge};
-ghost use Rattle.rules.specs.Verdict.{takesUnknownPod, canProceed, proceedWithCarrier, canCancel, cancelAt, cancelPort, failed, cancelCarrier};
+ghost use Rattle.rules.specs.Verdict.{takesUnknownPod, canProceed, proceedWithCarrier};
+ghost use Rattle.rules.specs.Verdict.{canCancel, cancelAt, cancelPort, failed, cancelCarrier};
 use effects::ask::either_carrier;
 use effects::ask::either_port;
 use effects::ask::found_or_new;

@@ -1,7 +1,8 @@
 // Rows 1 to 4: a carrier is announced, and the announcement is taken back.
 ghost use mathlib.Core.Path.{_≡_};
 ghost use Rattle.rules.specs.Row.{judge};
-ghost use Rattle.rules.specs.Booking.{bind, meant, meantPort, meantStands, onePair, cancelBind, carrierNotification, cancelCarrierNotification};
+ghost use Rattle.rules.specs.Booking.{bind, meant, meantPort, meantStands, onePair, cancelBind};
+ghost use Rattle.rules.specs.Booking.{carrierNotification, cancelCarrierNotification};
 use effects::ask::either_carrier;
 use effects::ask::either_port;
 use effects::ask::on_port_and_gone;

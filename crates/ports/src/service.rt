@@ -1,7 +1,8 @@
 // Rows 9 to 12: access mode, service status and reservations of a port.
 ghost use mathlib.Core.Path.{_≡_};
 ghost use Rattle.rules.specs.Row.{judge};
-ghost use Rattle.rules.specs.Service.{otherAccess, changeAccess, goesOut, comesIn, changeServiceStatus, reserveAtPort, cancelReservationAtPort};
+ghost use Rattle.rules.specs.Service.{otherAccess, changeAccess, goesOut, comesIn, changeServiceStatus};
+ghost use Rattle.rules.specs.Service.{reserveAtPort, cancelReservationAtPort};
 use effects::ask::on_port;
 use records::choose::first;
 use rules::row::Effect;
