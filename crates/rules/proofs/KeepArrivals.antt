@@ -31,7 +31,7 @@ use Rattle.rules.proofs.KeepShapes.{Good, arrives-keeps, calm-keeps, le
 use Rattle.rules.proofs.KeepSeen.{new-fits, given-range, here-fits, name-fits, found-live, found-fits}
 use Rattle.rules.proofs.KeepSeen.{found-named, held-live, held-tied, held-placed, holds-none, nobody-tied}
 use Rattle.rules.proofs.KeepSeen.{only-held, has-room, spot-free, either-fits, either-named, either-shut}
-use Rattle.rules.proofs.KeepPorts.{marked-fits, emptied-fits}
+use Rattle.rules.proofs.KeepFits.{marked-fits, moved-fits, emptied-fits, stands-fits, flags-fit, states-fit}
 use Rattle.rules.proofs.KeepRecords.{shut}
 
 -- at a port
@@ -46,17 +46,7 @@ at-stands P B p a b = record {
 }
 
 pub placed-fits : (P B v p : ℕ) (c : Carrier) → (1 ≤ v) × (v ≤ 4) → 1 ≤ p → p ≤ P → Fits P B c → Fits P B (withId v (placedAt p c))
-placed-fits P B v p c r a b h = record {
-  named = h .named;
-  stands = at-stands P B p a b;
-  opened = h .opened;
-  cancelled = h .cancelled;
-  cameout = h .cameout;
-  map = h .map;
-  id = r;
-  slot = h .slot;
-  accessing = h .accessing;
-}
+placed-fits P B v p c r a b h = states-fit (stands-fits h (at-stands P B p a b)) (h .map) r (h .slot) (h .accessing)
 
 module _ (s : State) (i : Input) (f : Facts s) where
   abbrev x : Seen
@@ -143,29 +133,12 @@ module _ (s : State) (i : Input) (f : Facts s) where
         let u = not-true _ (and-r (inBuffer (x .found)) _ (and-l _ _ (and-l _ _ o))) in
         arrives-keeps s f _ a (record {
           follows = inr (found-live s i f (k .1 .1 .0));
-          port = record {
-            transfer = omega arith;
-            access = q .access;
-            reserved = q .reserved;
-            tie = or-r (sameName (x .name) noName) (name-fits s i f (k .0));
-            movement = q .movement;
-            pod = omega arith;
-            tag = omega arith;
-            moving = λ n. let z = q .moving n in absurd (omega arith);
-            low = λ b. absurd (omega arith);
-            load = λ m _. let z = q .moving (λ y. omega arith) in omega arith;
-          };
-          fits = record {
-            named = h .named;
-            stands = at-stands _ _ (x .port) (r .0) (r .1);
-            opened = h .opened;
-            cancelled = h .cancelled;
-            cameout = omega arith;
-            map = h .map;
-            id = h .id;
-            slot = h .slot;
-            accessing = h .accessing;
-          };
+          port =
+              marked-fits _
+              (moved-fits _ q (omega arith) (q .movement) (omega arith) (λ n. let z = q .moving n in absurd (omega arith))
+              (λ b. absurd (omega arith)) (λ m _. let z = q .moving (λ y. omega arith) in omega arith))
+              (q .access) (q .reserved) (or-r (sameName (x .name) noName) (name-fits s i f (k .0))) (omega arith);
+          fits = flags-fit (stands-fits h (at-stands _ _ (x .port) (r .0) (r .1))) (h .opened) (h .cancelled) (omega arith);
           tied = refl;
           named = sym (found-named s i f (k .1 .1 .0));
           shown = λ z. clash z u;
@@ -192,24 +165,14 @@ module _ (s : State) (i : Input) (f : Facts s) where
         let g = leb-true (x .value) (x .places) (and-r (leb 1 (x .value)) _ (k .1 .0)) in
         leaves-keeps s f (x .port) (emptied (x .here)) (x .holds) (movedIn (x .value) (x .held)) b (λ z. omega arith) (held-tied s i f t)
         (emptied-fits _ (f .ports (x .port))) refl
-        (record {
-          named = h .named;
-          stands = record {
-            placeRange = omega arith;
-            portRange = omega arith;
-            inSpot = λ _. (l, g);
-            inFree = λ _. refl;
-            noSpot = λ n. absurd (n refl);
-            atTied = λ z. absurd (omega arith);
-          };
-          opened = h .opened;
-          cancelled = h .cancelled;
-          cameout = h .cameout;
-          map = h .map;
-          id = h .id;
-          slot = h .slot;
-          accessing = h .accessing;
-        })
+        (stands-fits h (record {
+          placeRange = omega arith;
+          portRange = omega arith;
+          inSpot = λ _. (l, g);
+          inFree = λ _. refl;
+          noSpot = λ n. absurd (n refl);
+          atTied = λ z. absurd (omega arith);
+        }))
         refl (λ j c _. other (k .1 .1 .1 .1 .0) l j c);
   }
     where

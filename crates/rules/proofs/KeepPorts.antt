@@ -9,9 +9,7 @@ use lib.Dec.{eqb}
 use borrow.Author.Tests.{eqb-true, eqb-false, leb-true, lt-ltb}
 use Rattle.lists.proofs.Bools.{clash, and-l, and-r, or-other, not-true}
 use Rattle.records.specs.declared.port.Port.{Port}
-use Rattle.records.specs.declared.name.Name.{Name}
-use Rattle.records.specs.Names.{noName, sameName, holdsName}
-use Rattle.records.specs.Ports.{readyToLoad, unbound, emptied}
+use Rattle.records.specs.Ports.{readyToLoad, unbound}
 use Rattle.records.specs.Fields.{withTransfer}
 use Rattle.records.specs.Carriers.{expected, untied}
 use Rattle.rules.specs.declared.row.Seen.{Seen}
@@ -21,47 +19,13 @@ use Rattle.rules.specs.Row.{onPortAndGone}
 use Rattle.rules.specs.Booking.{meant, meantPort, meantStands, onePair, cancelBind, cancelCarrierNotification}
 use Rattle.rules.specs.Service.{goesOut, comesIn, changeAccess, changeServiceStatus, reserveAtPort, cancelReservationAtPort}
 use Rattle.rules.specs.Transfer.{loadStart, loadDone, loadFail, unloadStart, unloadDone, unloadFail}
-use Rattle.rules.proofs.Names.{name-same}
 use Rattle.rules.proofs.Accepts.{clear}
 use Rattle.rules.proofs.SoundParts.{PortFits, Facts}
 use Rattle.rules.proofs.Orderly.{ties-differ}
 use Rattle.rules.proofs.Keep.{Calm, Keeps}
 use Rattle.rules.proofs.KeepShapes.{Good, calm-keeps, freed-keeps, gone-keeps}
+use Rattle.rules.proofs.KeepFits.{no-tie, marked-fits, moved-fits, emptied-fits, moving-calm, unblocked-calm}
 use Rattle.rules.proofs.KeepSeen.{given-range, found-live, held-live, held-tied, held-there, only-held}
-
--- a tie to nothing is in range
-pub no-tie : (b : Bool) → (sameName noName noName || b) ≡ true
-no-tie b = rw (name-same noName noName refl)
-
--- access, reservation, tie and tag may change to whatever is in range
-pub marked-fits : (q : Port) → PortFits q → {a r g : ℕ} {n : Name} → a ≤ 1 → r ≤ 1 → (sameName n noName || holdsName n) ≡ true → g ≤ 2
-    → PortFits (record { transfer = q .transfer; access = a; reserved = r; tie = n; movement = q .movement; pod = q .pod; tag = g })
-marked-fits q h a r n g = record {
-  transfer = h .transfer;
-  access = a;
-  reserved = r;
-  tie = n;
-  movement = h .movement;
-  pod = h .pod;
-  tag = g;
-  moving = h .moving;
-  low = h .low;
-  load = h .load;
-}
-
-pub emptied-fits : (q : Port) → PortFits q → PortFits (emptied q)
-emptied-fits q h = record {
-  transfer = omega arith;
-  access = h .access;
-  reserved = h .reserved;
-  tie = no-tie _;
-  movement = omega arith;
-  pod = omega arith;
-  tag = omega arith;
-  moving = λ n. absurd (n refl);
-  low = λ _ z. omega arith;
-  load = λ _ z. omega arith;
-}
 
 module _ (s : State) (i : Input) (f : Facts s) where
   abbrev x : Seen
@@ -97,18 +61,8 @@ module _ (s : State) (i : Input) (f : Facts s) where
 
   served-fits : (v : ℕ) → PortFits (x .here) → (v ≡ x .here .transfer) ⊎ ((v ≤ 1) × (x .here .transfer ≤ 1))
       → PortFits (withTransfer v (x .here))
-  served-fits v h c = record {
-    transfer = range c;
-    access = h .access;
-    reserved = h .reserved;
-    tie = h .tie;
-    movement = h .movement;
-    pod = h .pod;
-    tag = h .tag;
-    moving = λ n. moving c n (h .moving n);
-    low = λ b. h .low (low c b);
-    load = h .load;
-  }
+  served-fits v h c =
+      moved-fits _ h (range c) (h .movement) (h .pod) (λ n. moving c n (h .moving n)) (λ b. h .low (low c b)) (h .load)
     where
       range : (v ≡ x .here .transfer) ⊎ ((v ≤ 1) × (x .here .transfer ≤ 1)) → v ≤ 3
       range (inl z) = let t = h .transfer in omega arith
@@ -162,19 +116,10 @@ module _ (s : State) (i : Input) (f : Facts s) where
         let h = f .ports (x .port) in
         let r = eqb-true (x .here .transfer) 1 (k .1 .0) in
         calm-keeps s f (x .port) _
-        (record {
-          transfer = omega arith;
-          access = h .access;
-          reserved = omega arith;
-          tie = h .tie;
-          movement = omega arith;
-          pod = h .pod;
-          tag = h .tag;
-          moving = λ _. refl;
-          low = λ b. absurd (omega arith);
-          load = λ _. h .low (omega arith);
-        })
-        (record { tie = refl; quiet = λ a b. let t = eqb-true (x .here .transfer) 3 b in absurd (omega arith) });
+        (marked-fits _
+        (moved-fits _ h (omega arith) (omega arith) (h .pod) (λ _. refl) (λ b. absurd (omega arith)) (λ _. h .low (omega arith)))
+        (h .access) (omega arith) (h .tie) (h .tag))
+        (unblocked-calm refl (λ z. omega arith));
   }
 
   pub load-done-keeps : Good s (loadDone x)
@@ -186,19 +131,10 @@ module _ (s : State) (i : Input) (f : Facts s) where
         let r = eqb-true (x .here .movement) 1 (k .1 .0) in
         let t = h .moving (λ z. omega arith) in
         calm-keeps s f (x .port) _
-        (record {
-          transfer = h .transfer;
-          access = h .access;
-          reserved = h .reserved;
-          tie = h .tie;
-          movement = omega arith;
-          pod = omega arith;
-          tag = omega arith;
-          moving = λ n. absurd (n refl);
-          low = λ b. absurd (omega arith);
-          load = λ z. absurd (omega arith);
-        })
-        (record { tie = refl; quiet = λ a b. let t = eqb-true (x .here .movement) 0 a in absurd (omega arith) });
+        (marked-fits _
+        (moved-fits _ h (h .transfer) (omega arith) (omega arith) (λ n. absurd (n refl)) (λ b. absurd (omega arith)) (λ z. absurd (omega arith)))
+        (h .access) (h .reserved) (h .tie) (omega arith))
+        (moving-calm refl (λ z. omega arith));
   }
 
   pub load-fail-keeps : Good s (loadFail x)
@@ -209,19 +145,8 @@ module _ (s : State) (i : Input) (f : Facts s) where
         let h = f .ports (x .port) in
         let r = eqb-true (x .here .movement) 1 (k .1 .0) in
         calm-keeps s f (x .port) _
-        (record {
-          transfer = omega arith;
-          access = h .access;
-          reserved = h .reserved;
-          tie = h .tie;
-          movement = omega arith;
-          pod = h .pod;
-          tag = h .tag;
-          moving = λ n. absurd (n refl);
-          low = λ _. h .load r;
-          load = λ z. absurd (omega arith);
-        })
-        (record { tie = refl; quiet = λ a b. let t = eqb-true (x .here .movement) 0 a in absurd (omega arith) });
+        (moved-fits _ h (omega arith) (omega arith) (h .pod) (λ n. absurd (n refl)) (λ _. h .load r) (λ z. absurd (omega arith)))
+        (moving-calm refl (λ z. omega arith));
   }
 
   pub unload-start-keeps : Good s (unloadStart x)
@@ -232,19 +157,8 @@ module _ (s : State) (i : Input) (f : Facts s) where
         let h = f .ports (x .port) in
         let r = eqb-true (x .here .transfer) 2 (k .1 .0) in
         calm-keeps s f (x .port) _
-        (record {
-          transfer = omega arith;
-          access = h .access;
-          reserved = h .reserved;
-          tie = h .tie;
-          movement = omega arith;
-          pod = h .pod;
-          tag = h .tag;
-          moving = λ _. refl;
-          low = λ b. absurd (omega arith);
-          load = λ z. absurd (omega arith);
-        })
-        (record { tie = refl; quiet = λ a b. let t = eqb-true (x .here .transfer) 3 b in absurd (omega arith) });
+        (moved-fits _ h (omega arith) (omega arith) (h .pod) (λ _. refl) (λ b. absurd (omega arith)) (λ z. absurd (omega arith)))
+        (unblocked-calm refl (λ z. omega arith));
   }
 
   pub unload-done-keeps : Good s (unloadDone x)
@@ -265,19 +179,8 @@ module _ (s : State) (i : Input) (f : Facts s) where
         let h = f .ports (x .port) in
         let r = eqb-true (x .here .movement) 2 (k .1 .0) in
         calm-keeps s f (x .port) _
-        (record {
-          transfer = omega arith;
-          access = h .access;
-          reserved = h .reserved;
-          tie = h .tie;
-          movement = omega arith;
-          pod = h .pod;
-          tag = h .tag;
-          moving = λ n. absurd (n refl);
-          low = λ b. absurd (omega arith);
-          load = λ z. absurd (omega arith);
-        })
-        (record { tie = refl; quiet = λ a b. let t = eqb-true (x .here .movement) 0 a in absurd (omega arith) });
+        (moved-fits _ h (omega arith) (omega arith) (h .pod) (λ n. absurd (n refl)) (λ b. absurd (omega arith)) (λ z. absurd (omega arith)))
+        (moving-calm refl (λ z. omega arith));
   }
 
   -- ── Rows 2 and 4 ──────────────────────────────────────────────────────────────────────────

@@ -23,51 +23,21 @@ use Rattle.rules.proofs.Apt.{Apt}
 use Rattle.rules.proofs.SoundParts.{PortFits, Fits, Facts}
 use Rattle.rules.proofs.Keep.{Keeps}
 use Rattle.rules.proofs.KeepShapes.{Good, record-keeps, both-keeps}
+use Rattle.rules.proofs.KeepFits.{moved-fits, flags-fit, states-fit}
 use Rattle.rules.proofs.KeepSeen.{found-live, found-fits, home-fits, map-fits}
 
 -- the changes of a record that leave it where it stands
 opened-fits : (P B v : ℕ) (c : Carrier) → v ≤ 1 → Fits P B c → Fits P B (withOpened v c)
-opened-fits P B v c b h = record {
-  named = h .named;
-  stands = h .stands;
-  opened = b;
-  cancelled = h .cancelled;
-  cameout = h .cameout;
-  map = h .map;
-  id = h .id;
-  slot = h .slot;
-  accessing = h .accessing;
-}
+opened-fits P B v c b h = flags-fit h b (h .cancelled) (h .cameout)
 
 accessing-fits : (P B v : ℕ) (c : Carrier) → (1 ≤ v) × (v ≤ 4) → Fits P B c → Fits P B (withAccessing v c)
-accessing-fits P B v c b h = record {
-  named = h .named;
-  stands = h .stands;
-  opened = h .opened;
-  cancelled = h .cancelled;
-  cameout = h .cameout;
-  map = h .map;
-  id = h .id;
-  slot = h .slot;
-  accessing = b;
-}
+accessing-fits P B v c b h = states-fit h (h .map) (h .id) (h .slot) b
 
 -- READY TO UNLOAD, where nothing moves
 pub unload-fits : (q : Port) → idle q ≡ true → PortFits q → PortFits (toUnload q)
 unload-fits q i h =
     let m = eqb-true (q .movement) 0 i in
-    record {
-      transfer = omega arith;
-      access = h .access;
-      reserved = h .reserved;
-      tie = h .tie;
-      movement = h .movement;
-      pod = h .pod;
-      tag = h .tag;
-      moving = λ n. absurd (n m);
-      low = λ b. absurd (omega arith);
-      load = h .load;
-    }
+    moved-fits q h (omega arith) (h .movement) (h .pod) (λ n. absurd (n m)) (λ b. absurd (omega arith)) (h .load)
 
 pub shut : {X : Type 0} → eqb 0 1 ≡ true → X
 shut e = clash e refl
@@ -100,17 +70,7 @@ module _ (s : State) (i : Input) (f : Facts s) where
         let h = found-fits s i f (k .1 .1 .0) in
         let b = found-live s i f (k .1 .1 .0) in
         record-keeps s f (x .stands) (withMap (x .map) 2 (x .found)) a b
-        (record {
-          named = h .named;
-          stands = h .stands;
-          opened = h .opened;
-          cancelled = h .cancelled;
-          cameout = h .cameout;
-          map = map-fits s i f (k .1 .0);
-          id = h .id;
-          slot = (omega arith, omega arith);
-          accessing = h .accessing;
-        })
+        (states-fit h (map-fits s i f (k .1 .0)) (h .id) (omega arith, omega arith) (h .accessing))
         (record { name = refl; place = refl; spot = refl; port = refl }) (f .shown (x .stands) b);
   }
 
@@ -179,30 +139,8 @@ module _ (s : State) (i : Input) (f : Facts s) where
         let u = eqb-true (x .home .transfer) 2 (and-r (atPort (x .found)) _ (and-l _ _ g)) in
         both-keeps s f (x .found .port) (toBlocked (x .home)) (x .stands) (takenBack (x .found)) a b
         (λ z. let y : x .found .port ≡ 0 = z in omega arith) refl
-        (record {
-          transfer = omega arith;
-          access = q .access;
-          reserved = q .reserved;
-          tie = q .tie;
-          movement = q .movement;
-          pod = q .pod;
-          tag = q .tag;
-          moving = λ _. refl;
-          low = λ b. absurd (omega arith);
-          load = q .load;
-        })
-        refl
-        (record {
-          named = h .named;
-          stands = h .stands;
-          opened = h .opened;
-          cancelled = h .cancelled;
-          cameout = omega arith;
-          map = h .map;
-          id = h .id;
-          slot = h .slot;
-          accessing = h .accessing;
-        })
+        (moved-fits _ q (omega arith) (q .movement) (q .pod) (λ _. refl) (λ b. absurd (omega arith)) (q .load))
+        refl (flags-fit h (h .opened) (h .cancelled) (omega arith))
         (record { name = refl; place = refl; spot = refl; port = refl })
         (λ o n. let r = eqb-true (x .home .transfer) 3 (f .shown (x .stands) b o n .2) in absurd (omega arith));
   }

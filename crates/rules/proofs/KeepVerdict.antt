@@ -26,7 +26,7 @@ use Rattle.rules.proofs.Keep.{Keeps}
 use Rattle.rules.proofs.KeepShapes.{Good, record-keeps, both-keeps}
 use Rattle.rules.proofs.KeepSeen.{given-range, here-fits, home-fits, name-fits, found-live, found-fits}
 use Rattle.rules.proofs.KeepSeen.{nobody-tied, either-fits, either-named, either-shut, placed-known}
-use Rattle.rules.proofs.KeepPorts.{marked-fits}
+use Rattle.rules.proofs.KeepFits.{marked-fits, flags-fit, states-fit}
 use Rattle.rules.proofs.KeepRecords.{unload-fits, shut}
 use Rattle.rules.proofs.KeepArrivals.{placed-fits, coming-keeps}
 
@@ -39,43 +39,17 @@ set-or-kept true v u a b = a
 set-or-kept false v u a b = b
 
 proceeded-fits : (P B : ℕ) (c : Carrier) → Fits P B c → Fits P B (proceeded c)
-proceeded-fits P B c h = record {
-  named = h .named;
-  stands = h .stands;
-  opened = h .opened;
-  cancelled = h .cancelled;
-  cameout = h .cameout;
-  map = h .map;
-  id = set-or-kept (idWaits c) 3 (c .id) (omega arith, omega arith) (h .id);
-  slot = set-or-kept (idWaits c) (c .slot) 3 (h .slot) (omega arith, omega arith);
-  accessing = h .accessing;
-}
+proceeded-fits P B c h =
+    states-fit h (h .map) (set-or-kept (idWaits c) 3 (c .id) (omega arith, omega arith) (h .id))
+    (set-or-kept (idWaits c) (c .slot) 3 (h .slot) (omega arith, omega arith)) (h .accessing)
 
 judged-fits : (P B : ℕ) (c : Carrier) → Fits P B c → Fits P B (judgedNo c)
-judged-fits P B c h = record {
-  named = h .named;
-  stands = h .stands;
-  opened = h .opened;
-  cancelled = h .cancelled;
-  cameout = h .cameout;
-  map = h .map;
-  id = set-or-kept (idWaits c) 4 (c .id) (omega arith, omega arith) (h .id);
-  slot = set-or-kept (not (idWaits c) && slotWaits c) 4 (c .slot) (omega arith, omega arith) (h .slot);
-  accessing = h .accessing;
-}
+judged-fits P B c h =
+    states-fit h (h .map) (set-or-kept (idWaits c) 4 (c .id) (omega arith, omega arith) (h .id))
+    (set-or-kept (not (idWaits c) && slotWaits c) 4 (c .slot) (omega arith, omega arith) (h .slot)) (h .accessing)
 
 cancelled-fits : (P B : ℕ) (b : Bool) (c : Carrier) → Fits P B c → Fits P B (cancelledBy b c)
-cancelled-fits P B b c h = record {
-  named = h .named;
-  stands = h .stands;
-  opened = omega arith;
-  cancelled = omega arith;
-  cameout = came b;
-  map = h .map;
-  id = h .id;
-  slot = h .slot;
-  accessing = h .accessing;
-}
+cancelled-fits P B b c h = flags-fit h (omega arith) (omega arith) (came b)
   where
     came : (w : Bool) → cond w (c .cameout) 0 ≤ 1
     came true = h .cameout

@@ -13,6 +13,7 @@ pub mod Orderly
 pub mod Keep
 pub mod KeepShapes
 pub mod KeepSeen
+pub mod KeepFits
 pub mod KeepPorts
 pub mod KeepRecords
 pub mod KeepArrivals
