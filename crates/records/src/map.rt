@@ -1,6 +1,7 @@
 // A slot map: 25 codes, each 0 to 5.
 ghost use mathlib.Core.Path.{_≡_};
 ghost use Rattle.records.specs.Maps.{isMap, inMap};
+use crate::fill::fill;
 
 // Whether codes of any length are a slot map.
 pub fn is_map(codes: &[u8]) -> bool
@@ -25,12 +26,6 @@ pub fn in_map(codes: &[u8]) -> [u8; 25]
     ensures { λ r. ⌜ r ≡ inMap (now (codes .entry)) ⌝ }
 {
     let mut map = [0; 25];
-    let mut i = 0;
-    while i < 25 {
-        if i < codes.len() {
-            map[i] = codes[i];
-        }
-        i += 1;
-    }
+    fill(&mut map, codes);
     map
 }

@@ -1,6 +1,7 @@
 // A name: 1 to 16 bytes, each 0x21 to 0x7E, kept in sixteen bytes with zeros after it.
 ghost use mathlib.Core.Path.{_≡_};
 ghost use Rattle.records.specs.Names.{noName, sameName, isName, inBytes};
+use crate::fill::fill;
 
 #[repr(C)]
 pub struct Name {
@@ -53,12 +54,6 @@ pub fn in_bytes(text: &[u8]) -> Name
     ensures { λ r. ⌜ r ≡ inBytes (now (text .entry)) ⌝ }
 {
     let mut bytes = [0; 16];
-    let mut i = 0;
-    while i < 16 {
-        if i < text.len() {
-            bytes[i] = text[i];
-        }
-        i += 1;
-    }
+    fill(&mut bytes, text);
     Name { bytes }
 }

@@ -132,7 +132,8 @@ module _ (s : State) (i : Input) (f : Facts s) where
         let t = h .moving (λ z. omega arith) in
         calm-keeps s f (x .port) _
         (marked-fits _
-        (moved-fits _ h (h .transfer) (omega arith) (omega arith) (λ n. absurd (n refl)) (λ b. absurd (omega arith)) (λ z. absurd (omega arith)))
+        (moved-fits _ h (h .transfer) (omega arith) (omega arith) (λ n. absurd (n refl))
+        (λ b. absurd (omega arith)) (λ z. absurd (omega arith)))
         (h .access) (h .reserved) (h .tie) (omega arith))
         (moving-calm refl (λ z. omega arith));
   }
