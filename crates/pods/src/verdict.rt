@@ -1,7 +1,7 @@
 // Rows 5 and 6: the host says yes or no to a carrier.
 ghost use mathlib.Core.Path.{_≡_};
 ghost use Rattle.rules.specs.Row.{judge};
-ghost use Rattle.rules.specs.Verdict.{takesUnknownPod, canProceed, proceedWithCarrier};
+ghost use Rattle.rules.specs.Verdict.{takesUnknownPod, groundsUnless, canProceed, proceedWithCarrier};
 ghost use Rattle.rules.specs.Verdict.{canCancel, cancelAt, cancelPort, failed, cancelCarrier};
 use effects::ask::either_carrier;
 use effects::ask::either_port;
@@ -21,17 +21,11 @@ fn takes_unknown_pod(x: Seen) -> bool
     (x.found.port == 0) & unknown_pod(x)
 }
 
-fn can_proceed(x: Seen, c: Carrier) -> bool
-    ensures { λ r. ⌜ r ≡ canProceed x c ⌝ }
+// What both rows answer; `can` is what the row asks of a placed carrier.
+fn answer_unless(can: bool, x: Seen) -> u8
+    ensures { λ r. ⌜ r ≡ judge (groundsUnless can x) ⌝ }
 {
-    !other_port(x, c) & ((c.id == 2) | ((c.id == 3) & (c.slot == 2)))
-}
-
-pub fn proceed_with_carrier_answer(x: Seen) -> u8
-    ensures { λ r. ⌜ r ≡ judge (proceedWithCarrier x .grounds) ⌝ }
-{
-    let c = x.found;
-    let a = first(!(!placed(x) | can_proceed(x, c)), 5, 0);
+    let a = first(!(!placed(x) | can), 5, 0);
     let b = first(!(!x.known | placed(x) | takes_unknown_pod(x)), 5, a);
     first(
         !x.named,
@@ -42,6 +36,19 @@ pub fn proceed_with_carrier_answer(x: Seen) -> u8
             first(!(x.known | unknown_pod(x)), 2, b),
         ),
     )
+}
+
+fn can_proceed(x: Seen, c: Carrier) -> bool
+    ensures { λ r. ⌜ r ≡ canProceed x c ⌝ }
+{
+    !other_port(x, c) & ((c.id == 2) | ((c.id == 3) & (c.slot == 2)))
+}
+
+pub fn proceed_with_carrier_answer(x: Seen) -> u8
+    ensures { λ r. ⌜ r ≡ judge (proceedWithCarrier x .grounds) ⌝ }
+{
+    let c = x.found;
+    answer_unless(can_proceed(x, c), x)
 }
 
 pub fn proceed_with_carrier_effect(x: Seen) -> Effect
@@ -78,17 +85,7 @@ pub fn cancel_carrier_answer(x: Seen) -> u8
 {
     let c = x.found;
     let q = x.home;
-    let a = first(!(!placed(x) | can_cancel(x, c, q)), 5, 0);
-    let b = first(!(!x.known | placed(x) | takes_unknown_pod(x)), 5, a);
-    first(
-        !x.named,
-        1,
-        first(
-            !(x.isport | x.noport),
-            1,
-            first(!(x.known | unknown_pod(x)), 2, b),
-        ),
-    )
+    answer_unless(can_cancel(x, c, q), x)
 }
 
 fn cancel_at(x: Seen) -> u8

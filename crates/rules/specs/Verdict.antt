@@ -1,7 +1,7 @@
 -- Rows 5 and 6: the host says yes or no to a carrier.
 use Prim.Native.Nat.{ℕ}
 use mathlib.Core.Bool.{Bool, not, cond, _&&_, _||_}
-use mathlib.Core.List.{[], _∷_}
+use mathlib.Core.List.{List, [], _∷_}
 use lib.Dec.{eqb}
 use Rattle.records.specs.declared.port.Port.{Port}
 use Rattle.records.specs.declared.carrier.Carrier.{Carrier}
@@ -9,11 +9,16 @@ use Rattle.records.specs.Ports.{noPort, readyToUnload, idle, toUnload}
 use Rattle.records.specs.Carriers.{atPort, untied, idWaits, idOk, slotWaits, inAccess, placedAt, proceeded, judgedNo, cancelledBy}
 use Rattle.records.specs.Fields.{tiedTo, withId}
 use Rattle.rules.specs.declared.row.Seen.{Seen}
-use Rattle.rules.specs.Row.{Row, unless, isPortOrNone, otherPort, placed, unknownPod, foundOrNew}
+use Rattle.rules.specs.Row.{Ground, Row, unless, isPortOrNone, otherPort, placed, unknownPod, foundOrNew}
 
 -- Expected: it is untied and an unknown pod is at the port given.
 unfoldable pub takesUnknownPod : Seen → Bool
 takesUnknownPod x = untied (x .found) && unknownPod x
+
+-- No record: 2 without an unknown pod; expected: 5 unless it takes one; placed: 5 unless it can be judged so.
+abbrev pub groundsUnless : Bool → Seen → List Ground
+groundsUnless can x = unless (x .named) 1 ∷ unless (isPortOrNone x) 1 ∷ unless (x .known || unknownPod x) 2
+    ∷ unless (not (x .known) || placed x || takesUnknownPod x) 5 ∷ unless (not (placed x) || can) 5 ∷ []
 
 -- 5. ProceedWithCarrier(name, port or 0). No record: with an unknown pod there, a new record with ID OK, placed at and tied
 -- to that port; else 2. Expected: if untied and an unknown pod is there, ID OK, placed and tied; else 5. Placed: 5 if a
@@ -23,9 +28,7 @@ canProceed x c = not (otherPort x c) && (idWaits c || (idOk c && slotWaits c))
 
 abbrev pub proceedWithCarrier : Seen → Row
 proceedWithCarrier x = record {
-  grounds = unless (x .named) 1 ∷ unless (isPortOrNone x) 1 ∷ unless (x .known || unknownPod x) 2
-      ∷ unless (not (x .known) || placed x || takesUnknownPod x) 5
-      ∷ unless (not (placed x) || canProceed x (x .found)) 5 ∷ [];
+  grounds = groundsUnless (canProceed x (x .found)) x;
   effect = record {
     port = cond (placed x) 0 (x .port);
     becomes = cond (placed x) noPort (tiedTo (x .name) (x .here));
@@ -56,9 +59,7 @@ failed x = cond (placed x) (judgedNo (x .found)) (withId 4 (placedAt (x .port) (
 
 abbrev pub cancelCarrier : Seen → Row
 cancelCarrier x = record {
-  grounds = unless (x .named) 1 ∷ unless (isPortOrNone x) 1 ∷ unless (x .known || unknownPod x) 2
-      ∷ unless (not (x .known) || placed x || takesUnknownPod x) 5
-      ∷ unless (not (placed x) || canCancel x (x .found) (x .home)) 5 ∷ [];
+  grounds = groundsUnless (canCancel x (x .found) (x .home)) x;
   effect = record {
     port = cancelAt x;
     becomes = cond (eqb (cancelAt x) 0) noPort (toUnload (cancelPort x));
