@@ -133,8 +133,9 @@ mod tests {
         let early = explained(&mut tool, Input::LoadDone { port: 1 });
         let conditions = "refused, 5: the row's conditions on state don't hold\n  needed: the port loading\n";
         assert_eq!(early, format!("  LoadDone(1): the pod has arrived\n  {conditions}"));
-        let given = tool.step_raw(27, 0, 0, b"", b"");
-        let odd = answer(&tool, &Parts { number: 27, ..Parts::default() }, &given);
+        let parts = Parts { number: 27, ..Parts::default() };
+        let given = tool.step_parts(&parts);
+        let odd = answer(&tool, &parts, &given);
         assert!(odd.starts_with("  27: no input has this number\n  refused, 1: a port, place,"), "{odd}");
         assert!(!odd.contains("needed"), "{odd}");
         let none = explained(&mut Tool::none(), Input::LoadDone { port: 1 });

@@ -48,7 +48,7 @@ impl Player {
 
     fn input(&mut self, sent: &Sent, print: fn(&Answer) -> String) -> String {
         let parts = sent.parts();
-        let answer = self.tool.step_raw(parts.number, parts.port, parts.value, parts.name, parts.codes);
+        let answer = self.tool.step_parts(&parts);
         let printed = print(&answer);
         match self.explain {
             true => printed + &explain::answer(&self.tool, &parts, &answer),

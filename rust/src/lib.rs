@@ -44,6 +44,7 @@ extern crate std;
 mod input;
 mod machine;
 mod name;
+pub mod raw;
 mod refusal;
 mod report;
 mod row;
@@ -51,8 +52,8 @@ mod tool;
 pub mod words;
 
 pub use input::{Input, Parts};
-pub use machine::{REPORTS_BYTES, TOOL_BYTES};
 pub use name::{Name, NAME_BYTES};
+pub use raw::{REPORTS_BYTES, TOOL_BYTES};
 pub use refusal::Refusal;
 pub use report::{Model, Report, Reports, Subject, REPORTS};
 pub use row::{Argument, Row, ROWS};

@@ -1,6 +1,6 @@
 //! What an accepted input changed.
-use crate::machine::REPORTS_BYTES;
 use crate::name::{Name, NAME_BYTES};
+use crate::raw::REPORTS_BYTES;
 use crate::words;
 use core::fmt;
 

@@ -1,7 +1,8 @@
 //! The tool: ports, carriers and buffer, held as bytes.
 use crate::input::{Input, Parts};
-use crate::machine::{self, REPORTS_BYTES, TOOL_BYTES};
+use crate::machine;
 use crate::name::{Name, NAME_BYTES};
+use crate::raw::{REPORTS_BYTES, TOOL_BYTES};
 use crate::refusal::Refusal;
 use crate::report::Reports;
 use core::fmt;
@@ -86,30 +87,23 @@ impl Tool {
 
     /// One input. A refusal leaves the tool as it was.
     pub fn step(&mut self, input: &Input<'_>) -> Result<Reports, Refusal> {
-        let Parts { number, port, value, name, codes } = input.parts();
-        self.step_raw(number, port, value, name, codes)
+        self.step_parts(&input.parts())
     }
 
     /// One input by its number, which may be any. Parts that its row doesn't name are ignored.
     ///
     /// ```
-    /// use hawsermole::{Refusal, Tool};
+    /// use hawsermole::{Parts, Refusal, Tool};
     ///
     /// let mut tool = Tool::setup(1, 0).unwrap();
-    /// assert_eq!(tool.step_raw(1, 1, 77, b"AB", b"ignored").unwrap().len(), 5);
-    /// assert_eq!(tool.step_raw(27, 1, 0, b"AB", b""), Err(Refusal::OutOfRange));
-    /// assert_eq!(tool.step_raw(13, 257, 0, b"", b""), Err(Refusal::OutOfRange));
+    /// let bind = Parts { number: 1, port: 1, value: 77, name: b"AB", codes: b"ignored" };
+    /// assert_eq!(tool.step_parts(&bind).unwrap().len(), 5);
+    /// assert_eq!(tool.step_parts(&Parts { number: 27, ..bind }), Err(Refusal::OutOfRange));
+    /// assert_eq!(tool.step_parts(&Parts { number: 13, port: 257, ..bind }), Err(Refusal::OutOfRange));
     /// ```
-    pub fn step_raw(
-        &mut self,
-        number: u32,
-        port: u32,
-        value: u32,
-        name: &[u8],
-        codes: &[u8],
-    ) -> Result<Reports, Refusal> {
+    pub fn step_parts(&mut self, parts: &Parts<'_>) -> Result<Reports, Refusal> {
         let mut reports = [0; REPORTS_BYTES];
-        refused(machine::step(&mut self.bytes, &mut reports, (number, port, value), name, codes))?;
+        refused(machine::step(&mut self.bytes, &mut reports, parts))?;
         Ok(Reports::new(reports))
     }
 

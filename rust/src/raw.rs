@@ -1,0 +1,77 @@
+//! The archive's functions as they are, for programs that keep a tool in bytes of their own and measure or compare the archive
+//! itself. Everybody else is better off with [`Tool`](crate::Tool), which needs no `unsafe`.
+
+/// How many bytes a tool has.
+pub const TOOL_BYTES: usize = 1891;
+/// How many bytes the reports of an input have.
+pub const REPORTS_BYTES: usize = 141;
+
+// `include/hawsermole.h` says what each gives.
+unsafe extern "C" {
+    /// The bytes of a tool, as the archive has them.
+    pub safe fn hm_tool_size() -> u32;
+    /// The bytes of the reports, as the archive has them.
+    pub safe fn hm_reports_size() -> u32;
+    /// Sets a tool up; a refused set-up leaves all zeros.
+    pub fn hm_setup(tool: &mut [u8; TOOL_BYTES], ports: u32, places: u32) -> u32;
+    /// 1 if a tool, whatever its bytes, is sound, else 0.
+    pub fn hm_sound(tool: &[u8; TOOL_BYTES]) -> u32;
+    /// One input; [`step`] is the same with slices.
+    pub fn hm_step(
+        tool: &mut [u8; TOOL_BYTES],
+        reports: &mut [u8; REPORTS_BYTES],
+        number: u32,
+        port: u32,
+        value: u32,
+        name: *const u8,
+        name_length: u64,
+        codes: *const u8,
+        codes_length: u64,
+    ) -> u32;
+}
+
+/// Whether the archive has the sizes of this crate. One of another version could write past the bytes that it is lent.
+pub fn sizes_agree() -> bool {
+    (hm_tool_size(), hm_reports_size()) == (TOOL_BYTES as u32, REPORTS_BYTES as u32)
+}
+
+/// One input: the answer; tool and reports are written in place.
+///
+/// # Safety
+/// [`sizes_agree`].
+#[inline(always)]
+pub unsafe fn step(
+    tool: &mut [u8; TOOL_BYTES],
+    reports: &mut [u8; REPORTS_BYTES],
+    number: u32,
+    port: u32,
+    value: u32,
+    name: &[u8],
+    codes: &[u8],
+) -> u32 {
+    let (name_length, codes_length) = (name.len() as u64, codes.len() as u64);
+    // SAFETY: tool and reports are lent to the archive and apart from each other, and the caller answers for their sizes. A
+    // slice's pointer is never null, also when it is empty, and the archive reads no further than its length.
+    unsafe {
+        hm_step(tool, reports, number, port, value, name.as_ptr(), name_length, codes.as_ptr(), codes_length)
+    }
+}
+
+#[cfg(test)]
+mod tests {
+    use super::*;
+
+    #[test]
+    fn the_archive_has_our_sizes() {
+        assert_eq!(hm_tool_size() as usize, TOOL_BYTES);
+        assert_eq!(hm_reports_size() as usize, REPORTS_BYTES);
+        assert!(sizes_agree());
+    }
+
+    #[test]
+    fn sizes_are_the_sum_of_their_parts() {
+        use crate::tool::{CARRIER_BYTES, HEAD_BYTES, PORT_BYTES};
+        assert_eq!(TOOL_BYTES, HEAD_BYTES + crate::PORTS * PORT_BYTES + crate::CARRIERS * CARRIER_BYTES);
+        assert_eq!(REPORTS_BYTES, 1 + crate::REPORTS * crate::report::REPORT_BYTES);
+    }
+}
