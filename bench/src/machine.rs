@@ -1,22 +1,9 @@
 //! A step of either program, as one kind of function.
 
-use plainly::{Reports, Tool};
+use hawsermole::raw;
+use plainly::{Plain, Reports, Tool};
 
 pub type Step = fn(&mut Tool, u32, u32, u32, &[u8], &[u8], &mut Reports) -> u32;
-
-extern "C" {
-    fn hm_step(
-        tool: *mut Tool,
-        reports: *mut Reports,
-        number: u32,
-        port: u32,
-        value: u32,
-        name: *const u8,
-        name_length: u64,
-        codes: *const u8,
-        codes_length: u64,
-    ) -> u32;
-}
 
 /// The proved machine. What counts instructions knows the caller of `hm_step` by this name.
 #[no_mangle]
@@ -30,21 +17,9 @@ pub fn caller_of_hm_step(
     codes: &[u8],
     reports: &mut Reports,
 ) -> u32 {
-    // SAFETY: tool and reports are two structs of bytes, borrowed for the call; a slice's pointer is never null, and goes
-    // with its length.
-    let answer = unsafe {
-        hm_step(
-            tool,
-            reports,
-            number,
-            port,
-            value,
-            name.as_ptr(),
-            name.len() as u64,
-            codes.as_ptr(),
-            codes.len() as u64,
-        )
-    };
+    let (tool, reports) = (tool.bytes_mut().try_into().unwrap(), reports.bytes_mut().try_into().unwrap());
+    // SAFETY: `main` has seen that the sizes agree.
+    let answer = unsafe { raw::step(tool, reports, number, port, value, name, codes) };
     // Not a tail call: `hm_step` comes back here.
     std::hint::black_box(answer)
 }

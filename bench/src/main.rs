@@ -1,4 +1,5 @@
-//! The figures: time per input of the proved machine and of the independent program, and inputs to count instructions of.
+//! The figures: time per input of the proved machine and of the independent program, and inputs whose instructions are
+//! counted.
 
 mod machine;
 mod mix;
@@ -38,6 +39,10 @@ fn run(words: &[&str]) -> Option<Result<(), String>> {
 }
 
 fn main() -> ExitCode {
+    if !hawsermole::raw::sizes_agree() {
+        eprintln!("bench: the archive has other sizes than the structs that are lent to it");
+        return ExitCode::FAILURE;
+    }
     let words: Vec<String> = std::env::args().skip(1).collect();
     let words: Vec<&str> = words.iter().map(String::as_str).collect();
     match run(&words) {

@@ -1,5 +1,6 @@
 //! A run that is kept near a number of live carriers, recorded so that both programs play the same inputs.
 
+use hawsermole::Parts;
 use plainly::gen::{random_run_input, Rng};
 use plainly::{setup, step, Reports, Tool, MAX_CARRIERS};
 
@@ -12,14 +13,6 @@ struct Recorded {
     codes: std::ops::Range<usize>,
 }
 
-pub struct Given<'a> {
-    pub number: u32,
-    pub port: u32,
-    pub value: u32,
-    pub name: &'a [u8],
-    pub codes: &'a [u8],
-}
-
 pub struct Mix {
     pub start: Tool,
     inputs: Vec<Recorded>,
@@ -29,8 +22,8 @@ pub struct Mix {
 }
 
 impl Mix {
-    pub fn inputs(&self) -> impl Iterator<Item = Given<'_>> {
-        self.inputs.iter().map(|i| Given {
+    pub fn inputs(&self) -> impl Iterator<Item = Parts<'_>> {
+        self.inputs.iter().map(|i| Parts {
             number: i.number,
             port: i.port,
             value: i.value,

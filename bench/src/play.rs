@@ -1,6 +1,7 @@
-//! Inputs played to the proved machine alone, for what counts instructions. One line for each call of `hm_step`, in the order
-//! of the calls:   CARRIERS NUMBER ANSWER NAMES PORT VALUE NAME CODES   (CODES is how many)
+//! Inputs played to the proved machine alone, for what counts instructions. It prints a line for each call of `hm_step`:
+//! CARRIERS NUMBER ANSWER NAMES PORT VALUE NAME CODES   (CODES is how many)
 
+use hawsermole::{Row, ROWS};
 use plainly::gen::{Input, Rng};
 use plainly::{Reports, Tool};
 
@@ -8,40 +9,10 @@ use crate::machine::caller_of_hm_step;
 use crate::mix::record;
 use crate::states::{damaged, prepared, FAMILIES};
 
-/// Document 01's names of the inputs.
-const INPUTS: [&str; 26] = [
-    "Bind",
-    "CancelBind",
-    "CarrierNotification",
-    "CancelCarrierNotification",
-    "ProceedWithCarrier",
-    "CancelCarrier",
-    "CarrierOut",
-    "CarrierIn",
-    "ChangeAccess",
-    "ChangeServiceStatus",
-    "ReserveAtPort",
-    "CancelReservationAtPort",
-    "LoadStart",
-    "LoadDone",
-    "LoadFail",
-    "IdRead",
-    "IdReadFailed",
-    "MoveIn",
-    "Open",
-    "SlotMap",
-    "AccessStart",
-    "AccessEnd",
-    "Close",
-    "UnloadStart",
-    "UnloadDone",
-    "UnloadFail",
-];
-
 /// The row of an input that is given by its name or its number.
 pub fn row_of(word: &str) -> Option<u32> {
-    let named = INPUTS.iter().position(|input| *input == word).map(|at| at as u32 + 1);
-    named.or_else(|| word.parse().ok().filter(|row| (1..=INPUTS.len() as u32).contains(row)))
+    let numbered = || Row::numbered(word.parse().ok()?);
+    Row::named(word).or_else(numbered).map(|row| row.number)
 }
 
 /// A recorded mix, near a number of live carriers.
@@ -79,7 +50,7 @@ pub fn one_row(row: u32, count: usize, carriers: usize) {
 pub fn search(count: usize, carriers: usize) {
     let mut rng = Rng::new(312);
     for k in 0..count {
-        let (row, turn) = (1 + (k % INPUTS.len()) as u32, k / INPUTS.len());
+        let (row, turn) = (1 + (k % ROWS.len()) as u32, k / ROWS.len());
         let family = turn / 2 % FAMILIES.len();
         let (state, input) = prepared(carriers, family, row, turn % 2 == 0, &mut rng);
         call(&state, &input, FAMILIES[family]);
@@ -90,7 +61,7 @@ pub fn search(count: usize, carriers: usize) {
 pub fn unsound(count: usize, carriers: usize) {
     let mut rng = Rng::new(1);
     for k in 0..count {
-        let row = 1 + (k % INPUTS.len()) as u32;
+        let row = 1 + (k % ROWS.len()) as u32;
         let (state, input) = prepared(carriers, 0, row, true, &mut rng);
         call(&damaged(&state, &mut rng), &input, "damaged");
     }

@@ -1,6 +1,6 @@
 //! Prepared states: sound tools of P = 4 and B = 16 with a given number of records, and an input for each.
 
-use plainly::gen::{pool_name, Input, Rng, POOL};
+use plainly::gen::{padded, pool_name, shuffle, Input, Rng, POOL};
 use plainly::{accessing, movement, place, setup, sound, status, step, tag, transfer};
 use plainly::{Carrier, Plain, Port, Reports, Tool, MAX_CARRIERS, NAME_LEN};
 
@@ -25,12 +25,6 @@ pub fn name(family: usize, k: u32) -> Vec<u8> {
         }
     }
     name.to_vec()
-}
-
-fn padded(name: &[u8]) -> [u8; NAME_LEN] {
-    let mut to = [0; NAME_LEN];
-    to[..name.len()].copy_from_slice(name);
-    to
 }
 
 fn port(rng: &mut Rng) -> Port {
@@ -64,13 +58,6 @@ fn seat(k: usize) -> Carrier {
     }
 }
 
-fn shuffled<T: Copy>(mut items: Vec<T>, rng: &mut Rng) -> Vec<T> {
-    for i in (1..items.len()).rev() {
-        items.swap(i, rng.below(i as u32 + 1) as usize);
-    }
-    items
-}
-
 fn statuses(c: &mut Carrier, rng: &mut Rng) {
     if c.placed() {
         c.id = rng.pick(&[status::NOT_READ, status::WAITING, status::OK, status::OK, status::FAILED]);
@@ -94,7 +81,8 @@ fn tool(carriers: usize, family: usize, rng: &mut Rng) -> Tool {
     let mut tool = Tool::NONE;
     setup(4, 16, &mut tool);
     tool.port = [0; 4].map(|_| port(rng));
-    let mut seats = shuffled((0..MAX_CARRIERS).map(seat).collect(), rng);
+    let mut seats: Vec<Carrier> = (0..MAX_CARRIERS).map(seat).collect();
+    shuffle(&mut seats, rng);
     seats.truncate(carriers);
     let mut free: Vec<u8> = (1..=4).filter(|&p| seats.iter().all(|c| c.port != p)).collect();
     let (tying, opened) = (rng.pick(&[0, 0, 25]), rng.below(carriers as u32 + 1) as usize);

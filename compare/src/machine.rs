@@ -1,5 +1,6 @@
 //! The two programs behind one face: the proved machine, by its C interface, and the independent program.
 
+use hawsermole::raw;
 use plainly::gen::Input;
 use plainly::{Plain, Reports, Tool};
 
@@ -9,65 +10,36 @@ pub trait Machine {
     fn sound(&self, tool: &Tool) -> u32;
 }
 
-extern "C" {
-    fn hm_setup(tool: *mut Tool, ports: u32, places: u32) -> u32;
-    fn hm_step(
-        tool: *mut Tool,
-        reports: *mut Reports,
-        number: u32,
-        port: u32,
-        value: u32,
-        name: *const u8,
-        name_length: u64,
-        codes: *const u8,
-        codes_length: u64,
-    ) -> u32;
-    fn hm_sound(tool: *const Tool) -> u32;
-    fn hm_tool_size() -> u32;
-    fn hm_reports_size() -> u32;
-}
-
 /// The proved machine, as the archive holds it.
-pub struct Proved;
+pub struct Proved(());
+
+impl Proved {
+    /// Nothing if the archive has other sizes than the structs that are lent to it.
+    pub fn new() -> Option<Proved> {
+        raw::sizes_agree().then_some(Proved(()))
+    }
+}
 
 impl Machine for Proved {
     fn setup(&self, ports: u32, places: u32, tool: &mut Tool) -> u32 {
-        // SAFETY: the tool is a struct of bytes, borrowed for the call.
-        unsafe { hm_setup(tool, ports, places) }
+        // SAFETY: the sizes agree.
+        unsafe { raw::hm_setup(lent(tool), ports, places) }
     }
 
-    fn step(&self, tool: &mut Tool, input: &Input, reports: &mut Reports) -> u32 {
-        let (name, codes) = (&input.name, &input.codes);
-        // SAFETY: tool and reports are two structs of bytes, borrowed for the call; a vector's pointer is never null, and
-        // goes with its length.
-        unsafe {
-            hm_step(
-                tool,
-                reports,
-                input.number,
-                input.port,
-                input.value,
-                name.as_ptr(),
-                name.len() as u64,
-                codes.as_ptr(),
-                codes.len() as u64,
-            )
-        }
+    fn step(&self, tool: &mut Tool, i: &Input, reports: &mut Reports) -> u32 {
+        // SAFETY: the sizes agree.
+        unsafe { raw::step(lent(tool), lent(reports), i.number, i.port, i.value, &i.name, &i.codes) }
     }
 
     fn sound(&self, tool: &Tool) -> u32 {
-        // SAFETY: any bytes are a tool to this function.
-        unsafe { hm_sound(tool) }
+        // SAFETY: the sizes agree.
+        unsafe { raw::hm_sound(tool.bytes().try_into().expect("a tool's bytes")) }
     }
 }
 
-impl Proved {
-    /// The sizes that the archive was built with, and those of the structs that are lent to it.
-    pub fn sizes() -> [(u32, usize); 2] {
-        // SAFETY: nothing goes in, a number comes out.
-        let said = unsafe { (hm_tool_size(), hm_reports_size()) };
-        [(said.0, size_of::<Tool>()), (said.1, size_of::<Reports>())]
-    }
+/// The bytes of a struct, to be written in place.
+fn lent<const N: usize>(to: &mut impl Plain) -> &mut [u8; N] {
+    to.bytes_mut().try_into().expect("as many bytes as the archive's")
 }
 
 /// The program written from document 01 alone.

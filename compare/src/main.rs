@@ -33,13 +33,11 @@ fn main() -> ExitCode {
         eprintln!("usage: compare [N]   (some N inputs in each of the large parts, N from 1)");
         return ExitCode::from(2);
     };
-    for (said, size) in Proved::sizes() {
-        if said as usize != size {
-            println!("the archive says that a struct has {said} bytes, and it has {size}");
-            return ExitCode::FAILURE;
-        }
-    }
-    let both = Both { proved: &Proved, independent: &Independent };
+    let Some(proved) = Proved::new() else {
+        println!("the archive has other sizes than the structs that are lent to it");
+        return ExitCode::FAILURE;
+    };
+    let both = Both { proved: &proved, independent: &Independent };
     match compare(&both, total) {
         Ok(table) => table.end(),
         Err(finding) => {

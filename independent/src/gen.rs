@@ -150,7 +150,8 @@ pub fn unpadded(name: &[u8; NAME_LEN]) -> Vec<u8> {
     name.iter().copied().take_while(|&byte| byte != 0).collect()
 }
 
-fn padded(name: &[u8]) -> [u8; NAME_LEN] {
+/// The name with zeros after it.
+pub fn padded(name: &[u8]) -> [u8; NAME_LEN] {
     let mut to = [0; NAME_LEN];
     to[..name.len()].copy_from_slice(name);
     to
@@ -513,7 +514,8 @@ fn random_port(rng: &mut Rng) -> Port {
     }
 }
 
-fn shuffle<T>(items: &mut [T], rng: &mut Rng) {
+/// Puts the items in any order.
+pub fn shuffle<T>(items: &mut [T], rng: &mut Rng) {
     for i in (1..items.len()).rev() {
         items.swap(i, rng.below(i as u32 + 1) as usize);
     }

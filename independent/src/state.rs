@@ -118,6 +118,11 @@ pub unsafe trait Plain: Copy {
         Self::bytes_of(core::slice::from_ref(self))
     }
 
+    fn bytes_mut(&mut self) -> &mut [u8] {
+        // SAFETY: as below; and whatever is written to the bytes, they are a value.
+        unsafe { core::slice::from_raw_parts_mut((&raw mut *self).cast(), core::mem::size_of::<Self>()) }
+    }
+
     fn bytes_of(items: &[Self]) -> &[u8] {
         // SAFETY: by the trait's promise every byte of `items` is initialised, and u8 has no
         // alignment; the length is that of the slice itself.
