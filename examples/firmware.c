@@ -34,11 +34,11 @@ static const struct input queue[] = {
 
 static const char *const refusals[] = {
     "accepted",
-    "a port, place, value or name is out of range, or the input is unknown",
+    "a port, place, value or name is outside its range, or the input number isn't 1 to 26",
     "the name has no record",
     "the name is taken",
     "the port is reserved or tied",
-    "the conditions on state don't hold",
+    "the row's conditions on state don't hold",
     "16 carriers are expected already",
     "not verified",
     "the buffer place is taken, or the opener is in use",

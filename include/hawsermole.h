@@ -90,15 +90,15 @@ enum hm_input {
 /* The answers of hm_step: accepted, or the lowest refusal that applies. hm_setup answers 0 or 1. */
 enum hm_answer {
     HM_ACCEPTED = 0,
-    HM_REFUSED_OUT_OF_RANGE = 1,     /* a port, place, value or name is outside its range, the input number
-                                        isn't 1 to 26, or the tool isn't sound: hm_sound tells which */
-    HM_REFUSED_NO_RECORD = 2,        /* the name has no record */
-    HM_REFUSED_NAME_TAKEN = 3,       /* the name is taken */
-    HM_REFUSED_PORT_TAKEN = 4,       /* the port is reserved or tied */
-    HM_REFUSED_STATE = 5,            /* the input's conditions on state don't hold */
-    HM_REFUSED_EXPECTED_FULL = 6,    /* 16 carriers are expected already */
-    HM_REFUSED_NOT_VERIFIED = 7,     /* not verified */
-    HM_REFUSED_PLACE_OR_OPENER = 8   /* the buffer place is taken, or the opener is in use */
+    HM_REFUSED_OUT_OF_RANGE = 1,         /* a port, place, value or name is outside its range, the input number
+                                            isn't 1 to 26, or the tool isn't sound: hm_sound tells which */
+    HM_REFUSED_NO_RECORD = 2,            /* the name has no record */
+    HM_REFUSED_NAME_TAKEN = 3,           /* the name is taken */
+    HM_REFUSED_RESERVED_OR_TIED = 4,     /* the port is reserved or tied */
+    HM_REFUSED_CONDITIONS = 5,           /* the row's conditions on state don't hold */
+    HM_REFUSED_EXPECTED_FULL = 6,        /* 16 carriers are expected already */
+    HM_REFUSED_NOT_VERIFIED = 7,         /* not verified */
+    HM_REFUSED_PLACE_OR_OPENER_TAKEN = 8 /* the buffer place is taken, or the opener is in use */
 };
 
 /* The models of reports. The subject is a port in 1 to 4 and a name in 5 to 7. */
@@ -185,9 +185,9 @@ typedef struct hm_carrier {
     uint8_t place;               /* enum hm_place */
     uint8_t spot;                /* the buffer place from 1, or 0 when not in the buffer */
     uint8_t port;                /* the port from 1 that it is tied to, or 0 */
-    uint8_t opened;              /* 0 or 1, as the next two */
+    uint8_t open;                /* 0 or 1, as the next two */
     uint8_t cancelled;
-    uint8_t cameout;
+    uint8_t came_out;
     uint8_t map[HM_SLOTS];       /* enum hm_code; all zero before a slot map came */
     uint8_t id;                  /* enum hm_status */
     uint8_t slot;                /* enum hm_status */
@@ -267,9 +267,9 @@ HM_AT(hm_carrier, name, 0);
 HM_AT(hm_carrier, place, 16);
 HM_AT(hm_carrier, spot, 17);
 HM_AT(hm_carrier, port, 18);
-HM_AT(hm_carrier, opened, 19);
+HM_AT(hm_carrier, open, 19);
 HM_AT(hm_carrier, cancelled, 20);
-HM_AT(hm_carrier, cameout, 21);
+HM_AT(hm_carrier, came_out, 21);
 HM_AT(hm_carrier, map, 22);
 HM_AT(hm_carrier, id, 47);
 HM_AT(hm_carrier, slot, 48);

@@ -94,7 +94,7 @@ setup prints   setup ANSWER
 in prints      ANSWER COUNT [MODEL SUBJECT OLD NEW; ..]   with names in hex
 a name prints  ANSWER  MODEL SUBJECT OLD>NEW; ..          or none
 dump prints    port I TRANSFER ACCESS RESERVED TIE MOVEMENT POD TAG
-               rec NAME PLACE SPOT PORT OPEN CANCELLED CAMEOUT MAP ID SLOT ACCESSING
+               rec NAME PLACE SPOT PORT OPEN CANCELLED CAME-OUT MAP ID SLOT ACCESSING
                end
 
 Before a set-up, and after one that was refused, there is no tool: every input is answered 1. A line

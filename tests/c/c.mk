@@ -4,7 +4,9 @@ C_FILES = include/hawsermole.h $(wildcard tests/c/*.h) $(ARCHIVE)
 SANITIZE = -fsanitize=address,undefined -fno-sanitize-recover=all -fno-omit-frame-pointer
 SANITIZED = gcc -std=c99 $(CFLAGS_C) $(SANITIZE)
 
-c: cross target/c/header-c99 target/c/header-c11 target/c/header-c++17 target/c/twelve target/c/firmware target/c/callers target/c/stack
+C_PROGRAMS = header-c99 header-c11 header-c++17 twelve firmware callers stack
+
+c: cross $(C_PROGRAMS:%=target/c/%)
 	CC="$(CC)" tests/c/archive.sh $(ARCHIVE)
 	$(EMULATOR) target/c/header-c99
 	$(EMULATOR) target/c/header-c11

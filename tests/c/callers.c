@@ -13,7 +13,7 @@
 
 static struct room tool_room, reports_room, name_room, codes_room;
 static unsigned long inputs, seed, at, failures, set_ups, unsound_tools, damaged_tools;
-static unsigned long answers[HM_REFUSED_PLACE_OR_OPENER + 1], accepted_rows[HM_INPUTS + 1];
+static unsigned long answers[HM_REFUSED_PLACE_OR_OPENER_TAKEN + 1], accepted_rows[HM_INPUTS + 1];
 static unsigned most_records;
 
 struct outcome {
@@ -107,7 +107,7 @@ static void judge_reports(const struct input *in, const hm_reports *reports, uns
 
 static void judge(const hm_tool *before, const struct input *in, const struct outcome *out)
 {
-    if (out->answer > HM_REFUSED_PLACE_OR_OPENER || out->sound_before > 1) {
+    if (out->answer > HM_REFUSED_PLACE_OR_OPENER_TAKEN || out->sound_before > 1) {
         wrong(in, "an answer that document 01 doesn't have");
         return;
     }
@@ -137,7 +137,7 @@ static void judge(const hm_tool *before, const struct input *in, const struct ou
 
 static void count(const struct input *in, const struct outcome *out)
 {
-    answers[out->answer <= HM_REFUSED_PLACE_OR_OPENER ? out->answer : 1]++;
+    answers[out->answer <= HM_REFUSED_PLACE_OR_OPENER_TAKEN ? out->answer : 1]++;
     unsound_tools += out->sound_before == 0;
     if (out->answer == HM_ACCEPTED && in->number <= HM_INPUTS) {
         accepted_rows[in->number]++;
@@ -224,7 +224,7 @@ static void summary(void)
 
     printf("callers: %lu inputs of seed %lu, %lu set-ups, %lu damaged tools, %lu inputs to a tool that isn't sound\n",
            at, seed, set_ups, damaged_tools, unsound_tools);
-    for (i = 0; i <= HM_REFUSED_PLACE_OR_OPENER; i++) {
+    for (i = 0; i <= HM_REFUSED_PLACE_OR_OPENER_TAKEN; i++) {
         printf("%s%u: %lu", i == 0 ? "answers " : ", ", i, answers[i]);
         met += answers[i] > 0;
     }
@@ -232,7 +232,7 @@ static void summary(void)
         rows += accepted_rows[i] > 0;
     }
     printf("\nrows accepted %u of %u, most records %u, %lu failed\n", rows, HM_INPUTS, most_records, failures);
-    if (inputs >= ENOUGH && (rows < HM_INPUTS || met <= HM_REFUSED_PLACE_OR_OPENER || unsound_tools == 0)) {
+    if (inputs >= ENOUGH && (rows < HM_INPUTS || met <= HM_REFUSED_PLACE_OR_OPENER_TAKEN || unsound_tools == 0)) {
         fprintf(stderr, "too little was met for this to mean anything\n");
         failures++;
     }

@@ -147,7 +147,7 @@ static uint32_t number_for_carrier(const hm_carrier *carrier)
     if (carrier->id == HM_STATUS_WAITING_FOR_HOST || carrier->slot == HM_STATUS_WAITING_FOR_HOST) {
         return filling || below(6) ? HM_INPUT_PROCEED_WITH_CARRIER : HM_INPUT_CANCEL_CARRIER;
     }
-    if (carrier->opened) {
+    if (carrier->open) {
         return HM_INPUT_SLOT_MAP + below(4);
     }
     if (carrier->accessing == HM_ACCESSING_NOT_ACCESSED && !carrier->cancelled && below(4)) {

@@ -8,7 +8,7 @@ HM_HOLDS(records_at_once, HM_RECORDS == HM_EXPECTED + HM_PLACES + HM_PORTS);
 HM_HOLDS(bytes_of_a_name, HM_NAME_BYTE_LEAST == 0x21 && HM_NAME_BYTE_GREATEST == 0x7E);
 HM_HOLDS(models_of_ports, HM_MODEL_TRANSFER == 1 && HM_MODEL_ACCESS == 2 && HM_MODEL_RESERVATION == 3);
 HM_HOLDS(models_of_carriers, HM_MODEL_TIE == 4 && HM_MODEL_ID == 5 && HM_MODEL_SLOT == 6 && HM_MODEL_ACCESSING == 7);
-HM_HOLDS(ends, HM_INPUT_BIND == 1 && HM_INPUT_UNLOAD_FAIL == HM_INPUTS && HM_REFUSED_PLACE_OR_OPENER == 8);
+HM_HOLDS(ends, HM_INPUT_BIND == 1 && HM_INPUT_UNLOAD_FAIL == HM_INPUTS && HM_REFUSED_PLACE_OR_OPENER_TAKEN == 8);
 HM_HOLDS(codes, HM_CODE_UNDEFINED == 0 && HM_CODE_EMPTY == 1 && HM_CODE_NOT_EMPTY == 2);
 HM_HOLDS(more_codes, HM_CODE_CORRECTLY_OCCUPIED == 3 && HM_CODE_DOUBLE_SLOTTED == 4 && HM_CODE_CROSS_SLOTTED == 5);
 HM_HOLDS(greatest_code, HM_CODE_CROSS_SLOTTED == HM_CODE_GREATEST);
@@ -87,7 +87,7 @@ static void a_pod_is_worked_on(uint32_t end, uint8_t ended)
         codes[i] = (uint8_t)(i % (HM_CODE_GREATEST + 1));
     }
     ACCEPTED(HM_INPUT_OPEN, 0, 0, "A");
-    CHECK(first->opened == 1);
+    CHECK(first->open == 1);
     CHECK(hm_step(&tool, &reports, HM_INPUT_SLOT_MAP, 0, 0, (const uint8_t *)"A", 1, codes, HM_SLOTS) == HM_ACCEPTED);
     CHECK(memcmp(first->map, codes, HM_SLOTS) == 0 && first->slot == HM_STATUS_WAITING_FOR_HOST);
     CHECK(reports.items[0].model == HM_MODEL_SLOT);
@@ -98,15 +98,15 @@ static void a_pod_is_worked_on(uint32_t end, uint8_t ended)
     ACCEPTED(HM_INPUT_ACCESS_END, 0, end, "A");
     CHECK(first->accessing == ended);
     ACCEPTED(HM_INPUT_CLOSE, 0, 0, "A");
-    CHECK(first->opened == 0);
+    CHECK(first->open == 0);
 }
 
 static void a_pod_goes_out(void)
 {
     ACCEPTED(HM_INPUT_CARRIER_OUT, 1, 0, "A");
-    CHECK(one->transfer == HM_TRANSFER_READY_TO_UNLOAD && first->cameout == 1);
+    CHECK(one->transfer == HM_TRANSFER_READY_TO_UNLOAD && first->came_out == 1);
     ACCEPTED(HM_INPUT_CARRIER_IN, 0, 0, "A");
-    CHECK(one->transfer == HM_TRANSFER_BLOCKED && first->cameout == 0);
+    CHECK(one->transfer == HM_TRANSFER_BLOCKED && first->came_out == 0);
     ACCEPTED(HM_INPUT_CANCEL_CARRIER, 1, 0, "A");
     CHECK(one->transfer == HM_TRANSFER_READY_TO_UNLOAD && first->cancelled == 1);
     ACCEPTED(HM_INPUT_UNLOAD_START, 1, 0, "");
@@ -142,8 +142,8 @@ static void refusals(void)
     CHECK(GIVE(HM_INPUT_CARRIER_NOTIFICATION, 0, 0, "a") == HM_REFUSED_NAME_TAKEN);
     CHECK(GIVE(HM_INPUT_CARRIER_NOTIFICATION, 0, 0, name) == HM_REFUSED_EXPECTED_FULL);
     ACCEPTED(HM_INPUT_RESERVE_AT_PORT, 1, 0, "");
-    CHECK(GIVE(HM_INPUT_RESERVE_AT_PORT, 1, 0, "") == HM_REFUSED_PORT_TAKEN);
-    CHECK(GIVE(HM_INPUT_LOAD_DONE, 1, 0, "") == HM_REFUSED_STATE);
+    CHECK(GIVE(HM_INPUT_RESERVE_AT_PORT, 1, 0, "") == HM_REFUSED_RESERVED_OR_TIED);
+    CHECK(GIVE(HM_INPUT_LOAD_DONE, 1, 0, "") == HM_REFUSED_CONDITIONS);
     ACCEPTED(HM_INPUT_LOAD_START, 1, 0, "");
     ACCEPTED(HM_INPUT_LOAD_DONE, 1, 0, "");
     CHECK(GIVE(HM_INPUT_MOVE_IN, 1, 1, "") == HM_REFUSED_NOT_VERIFIED);
@@ -152,7 +152,7 @@ static void refusals(void)
     ACCEPTED(HM_INPUT_LOAD_START, 1, 0, "");
     ACCEPTED(HM_INPUT_LOAD_DONE, 1, 0, "");
     ACCEPTED(HM_INPUT_ID_READ, 1, 0, "b");
-    CHECK(GIVE(HM_INPUT_MOVE_IN, 1, 1, "") == HM_REFUSED_PLACE_OR_OPENER && reports.count == 0);
+    CHECK(GIVE(HM_INPUT_MOVE_IN, 1, 1, "") == HM_REFUSED_PLACE_OR_OPENER_TAKEN && reports.count == 0);
 }
 
 int main(void)
