@@ -65,14 +65,11 @@ fn place(carrier: &Carrier) -> String {
 #[cfg(test)]
 mod tests {
     use super::*;
+    use crate::print::tests::tool;
     use hawsermole::Input;
 
     fn after(ports: u32, places: u32, inputs: &[Input]) -> String {
-        let mut tool = Tool::setup(ports, places).unwrap();
-        for input in inputs {
-            tool.step(input).unwrap();
-        }
-        state(&tool)
+        state(&tool(ports, places, inputs))
     }
 
     #[test]

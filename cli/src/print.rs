@@ -10,7 +10,7 @@ pub fn answer(answer: &Answer) -> u8 {
 }
 
 /// The reports of an answer; none if it is a refusal.
-pub fn reports(answer: &Answer) -> impl ExactSizeIterator<Item = Report> + '_ {
+pub fn reports(answer: &Answer) -> Reports {
     answer.as_ref().ok().cloned().unwrap_or_default()
 }
 
@@ -32,17 +32,7 @@ fn numbered_entry(report: Report) -> String {
 
 /// `0  1 1 1>3; 3 1 1>0`, or `7  none`: the form of document 01's table, names as text.
 pub fn named(given: &Answer) -> String {
-    let entries: Vec<String> = reports(given).map(named_entry).collect();
-    let entries = if entries.is_empty() { "none".into() } else { entries.join("; ") };
-    format!("{}  {entries}\n", answer(given))
-}
-
-fn named_entry(report: Report) -> String {
-    let subject = match report.subject {
-        Subject::Port(port) => port.to_string(),
-        Subject::Carrier(name) => name.to_string(),
-    };
-    format!("{} {subject} {}>{}", report.model.number(), report.old, report.new)
+    format!("{}  {}\n", answer(given), reports(given))
 }
 
 /// The whole state: a line for each port, a line for each record, `end`.
@@ -84,11 +74,12 @@ fn hex(bytes: &[u8]) -> String {
 }
 
 #[cfg(test)]
-mod tests {
+pub mod tests {
     use super::*;
     use hawsermole::Input;
 
-    fn tool(ports: u32, places: u32, inputs: &[Input]) -> Tool {
+    /// The tool after some inputs, all of them accepted.
+    pub fn tool(ports: u32, places: u32, inputs: &[Input]) -> Tool {
         let mut tool = Tool::setup(ports, places).unwrap();
         for input in inputs {
             tool.step(input).unwrap();

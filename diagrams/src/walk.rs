@@ -1,5 +1,5 @@
-//! Plays a script of the command line and writes it as a table: each input, its answer and reports, and what stands after it.
-use hawsermole::{words, Argument, Carrier, Input, Parts, Port, Reports, Row, Subject, Tool};
+//! Plays a script of the command line and writes it as a table: each input, its answer and reports, what stands after it.
+use hawsermole::{words, Argument, Carrier, Input, Parts, Port, Refusal, Reports, Row, Tool};
 
 /// A script's steps as rows of a Markdown table.
 pub fn walk(script: &str) -> Result<Vec<String>, String> {
@@ -23,24 +23,11 @@ pub fn walk(script: &str) -> Result<Vec<String>, String> {
 }
 
 /// An answer and its reports as the command line prints them.
-pub fn answer(result: Result<Reports, hawsermole::Refusal>) -> String {
-    let (number, reports) = match result {
-        Ok(reports) => (0, reports),
-        Err(refusal) => (refusal.number(), Reports::default()),
-    };
-    let reports: Vec<String> = reports.map(report).collect();
-    match reports.is_empty() {
-        true => format!("{number}  none"),
-        false => format!("{number}  {}", reports.join("; ")),
+fn answer(result: Result<Reports, Refusal>) -> String {
+    match result {
+        Ok(reports) => format!("0  {reports}"),
+        Err(refusal) => format!("{}  none", refusal.number()),
     }
-}
-
-fn report(report: hawsermole::Report) -> String {
-    let subject = match report.subject {
-        Subject::Port(port) => port.to_string(),
-        Subject::Carrier(name) => name.to_string(),
-    };
-    format!("{} {subject} {}>{}", report.model.number(), report.old, report.new)
 }
 
 fn step(tool: &mut Tool, words: &[&str]) -> Result<String, String> {

@@ -88,8 +88,18 @@ pub enum Subject {
     Carrier(Name),
 }
 
-/// One difference: a model of a port or carrier went from `old` to `new`. 0 is "no state" for a carrier: its record was made
-/// (old) or went (new).
+/// A port's number, or a carrier's name.
+impl fmt::Display for Subject {
+    fn fmt(&self, f: &mut fmt::Formatter<'_>) -> fmt::Result {
+        match self {
+            Subject::Port(port) => port.fmt(f),
+            Subject::Carrier(name) => name.fmt(f),
+        }
+    }
+}
+
+/// One difference: a model of a port or carrier went from `old` to `new`. 0 is "no state" for a carrier: its record was
+/// made (old) or went (new).
 #[derive(Clone, Copy, Debug, PartialEq, Eq, Hash)]
 pub struct Report {
     /// The state model.
@@ -100,6 +110,13 @@ pub struct Report {
     pub old: u8,
     /// The state after it.
     pub new: u8,
+}
+
+/// The report in the form of document 01's table: `5 AB 0>1`.
+impl fmt::Display for Report {
+    fn fmt(&self, f: &mut fmt::Formatter<'_>) -> fmt::Result {
+        write!(f, "{} {} {}>{}", self.model.number(), self.subject, self.old, self.new)
+    }
 }
 
 /// The reports of one accepted input, in order of model: an iterator of at most seven [`Report`]s.
@@ -127,7 +144,7 @@ impl Reports {
         Reports { bytes, given: 0 }
     }
 
-    /// All the bytes as the machine wrote them: the count, then seven entries of 20 bytes; those past the count are zero.
+    /// All the bytes as the machine wrote them: the count, then seven entries of 20 bytes, zero past the count.
     pub fn as_bytes(&self) -> &[u8; REPORTS_BYTES] {
         &self.bytes
     }
@@ -176,6 +193,27 @@ impl Iterator for Reports {
 
 impl ExactSizeIterator for Reports {}
 impl core::iter::FusedIterator for Reports {}
+
+/// The reports in the form of document 01's table: `1 1 1>3; 3 1 1>0`, or `none`.
+///
+/// ```
+/// use hawsermole::{Input, Tool};
+///
+/// let mut tool = Tool::setup(2, 0).unwrap();
+/// assert_eq!(tool.step(&Input::LoadStart { port: 2 }).unwrap().to_string(), "1 2 1>3");
+/// assert_eq!(tool.step(&Input::LoadDone { port: 2 }).unwrap().to_string(), "none");
+/// ```
+impl fmt::Display for Reports {
+    fn fmt(&self, f: &mut fmt::Formatter<'_>) -> fmt::Result {
+        if self.len() == 0 {
+            return f.write_str("none");
+        }
+        for (place, report) in self.clone().enumerate() {
+            write!(f, "{}{report}", if place == 0 { "" } else { "; " })?;
+        }
+        Ok(())
+    }
+}
 
 impl fmt::Debug for Reports {
     fn fmt(&self, f: &mut fmt::Formatter<'_>) -> fmt::Result {
