@@ -42,7 +42,7 @@ run: target/hawsermole
 
 # Links no archive, so that it runs as it is on every machine.
 independent:
-	cd independent && cargo test --offline --quiet --test hand_run --test readings --test soundness
+	cd independent && cargo test --offline --quiet
 
 rust: library cross
 	cd rust && $(CARGO) test --offline --quiet

@@ -136,15 +136,21 @@ fn seats_agree(t: &Tool, ports: &[Port], carriers: &[Carrier]) -> bool {
         && within & !high & HIGH == HIGH
         && expected <= MAX_EXPECTED as u8
         && buffered as u32 == (spots & !1).count_ones()
-        // As many carriers are tied as ports, and each tied port has its carrier.
         && tied == ports.iter().filter(|port| port.tied()).count()
-        && ports.iter().zip(&at[1..]).enumerate().all(|(p, (port, &i))| {
-            let c = &t.carrier[i as usize];
-            !port.tied()
-                || c.word() == port.tie()
-                    && c.port as usize == p + 1
-                    && (c.open == 0 || port.idle() && port.transfer == transfer::BLOCKED)
-        })
+        && ties_agree(t, ports, &at)
+}
+
+/// Each tied port has its carrier; as many carriers are tied as ports, so that each tied carrier
+/// has its port.
+#[inline]
+fn ties_agree(t: &Tool, ports: &[Port], at: &[u8; 8]) -> bool {
+    ports.iter().zip(&at[1..]).enumerate().all(|(p, (port, &i))| {
+        let c = &t.carrier[i as usize];
+        !port.tied()
+            || c.word() == port.tie()
+                && c.port as usize == p + 1
+                && (c.open == 0 || port.idle() && port.transfer == transfer::BLOCKED)
+    })
 }
 
 /// The bytes of a name that aren't zero begin at the first and nowhere else (all are below 0x80);

@@ -50,17 +50,17 @@ fn count(table: &mut Table, i: &Input, answer: u32) {
     table[row as usize][answer as usize] += 1;
 }
 
-/// 200,000 inputs for every P and B.
+/// 20,000 inputs for every P and B.
 fn runs(table: &mut Table) -> u64 {
     let mut inputs = 0;
     for p in 1..=4 {
         for b in 0..=16 {
             let mut rng = Rng::new(1000 * p as u64 + b as u64);
             let mut most = 0;
-            for _ in 0..4 {
+            for _ in 0..2 {
                 let mut t = Tool::NONE;
                 assert_eq!(setup(p, b, &mut t), 0);
-                for _ in 0..50_000 {
+                for _ in 0..10_000 {
                     let i = random_run_input(&t, &mut rng);
                     let answer = checked(&mut t, &i);
                     count(table, &i, answer);
@@ -77,7 +77,7 @@ fn runs(table: &mut Table) -> u64 {
 fn odd_states(table: &mut Table) -> u64 {
     let mut rng = Rng::new(42);
     let mut inputs = 0;
-    for _ in 0..600_000 {
+    for _ in 0..60_000 {
         let mut t = random_sound_tool(&mut rng);
         for _ in 0..4 {
             let i = random_run_input(&t, &mut rng);

@@ -19,65 +19,65 @@ fn compare(t: &Tool) -> bool {
     is
 }
 
+/// One or two bytes changed: mostly one in use, mostly to a small value.
+fn with_odd_bytes(t: &Tool, rng: &mut Rng) -> Tool {
+    let mut bytes = t.bytes().to_vec();
+    let used = 91 + 50 * t.count as u32;
+    for _ in 0..1 + rng.below(2) {
+        let at = match rng.below(10) {
+            0 => rng.below(1891),
+            1..=3 => rng.below(91),
+            _ => rng.below(used),
+        } as usize;
+        bytes[at] = match rng.below(4) {
+            0 => rng.below(256) as u8,
+            1 => bytes[at] ^ 1 << rng.below(8),
+            _ => rng.below(6) as u8,
+        };
+    }
+    Tool::from_bytes(&bytes).unwrap()
+}
+
+/// A name, a place, a tie or a number from elsewhere.
+fn with_an_odd_field(t: &Tool, rng: &mut Rng) -> Tool {
+    let mut u = *t;
+    let i = rng.below(36) as usize;
+    let j = rng.below(t.count.max(1) as u32) as usize;
+    let p = rng.below(4) as usize;
+    match rng.below(13) {
+        0 => u.carrier[i].name = t.carrier[j].name,
+        1 => (u.carrier[i].place, u.carrier[i].spot) = (t.carrier[j].place, t.carrier[j].spot),
+        2 => u.carrier[i].port = t.carrier[j].port,
+        3 => u.port[p].tie = t.carrier[j].name,
+        4 => u.port[p].tie = [0; 16],
+        5 => u.count = rng.below(38) as u8,
+        6 => u.ports = rng.below(6) as u8,
+        7 => u.places = rng.below(18) as u8,
+        8 => u.carrier[i].open = 1,
+        9 => u.port[p].pod = 1,
+        10 => u.port[p].movement = rng.below(3) as u8,
+        11 => u.port[p].transfer = rng.below(4) as u8,
+        _ => u.carrier.swap(i, j),
+    }
+    u
+}
+
 #[test]
 fn nearly_sound_states() {
     let mut rng = Rng::new(1);
-    let (mut held, mut broken) = (0, 0);
+    let (mut held, mut tried) = (0, 0);
     for _ in 0..60_000 {
         let t = random_sound_tool(&mut rng);
         assert!(compare(&t));
         for _ in 0..12 {
-            let mut bytes = [0; 1891];
-            bytes.copy_from_slice(t.bytes());
-            let changes = 1 + rng.below(2);
-            for _ in 0..changes {
-                // Mostly a byte in use, mostly a small value.
-                let used = 91 + 50 * t.count as u32;
-                let at = match rng.below(10) {
-                    0 => rng.below(1891),
-                    1..=3 => rng.below(91),
-                    _ => rng.below(used),
-                };
-                bytes[at as usize] = match rng.below(4) {
-                    0 => rng.below(256) as u8,
-                    1 => bytes[at as usize] ^ 1 << rng.below(8),
-                    _ => rng.below(6) as u8,
-                };
-            }
-            if compare(&Tool::from_bytes(&bytes).unwrap()) {
-                held += 1;
-            } else {
-                broken += 1;
-            }
+            held += compare(&with_odd_bytes(&t, &mut rng)) as u32;
         }
-        // Meaningful changes: a name, a place, a tie or a number from elsewhere.
         for _ in 0..6 {
-            let mut u = t;
-            let i = rng.below(36) as usize;
-            let j = rng.below(t.count.max(1) as u32) as usize;
-            let p = rng.below(4) as usize;
-            match rng.below(13) {
-                0 => u.carrier[i].name = t.carrier[j].name,
-                1 => (u.carrier[i].place, u.carrier[i].spot) = (t.carrier[j].place, t.carrier[j].spot),
-                2 => u.carrier[i].port = t.carrier[j].port,
-                3 => u.port[p].tie = t.carrier[j].name,
-                4 => u.port[p].tie = [0; 16],
-                5 => u.count = rng.below(38) as u8,
-                6 => u.ports = rng.below(6) as u8,
-                7 => u.places = rng.below(18) as u8,
-                8 => u.carrier[i].open = 1,
-                9 => u.port[p].pod = 1,
-                10 => u.port[p].movement = rng.below(3) as u8,
-                11 => u.port[p].transfer = rng.below(4) as u8,
-                _ => u.carrier.swap(i, j),
-            }
-            if compare(&u) {
-                held += 1;
-            } else {
-                broken += 1;
-            }
+            held += compare(&with_an_odd_field(&t, &mut rng)) as u32;
         }
+        tried += 18;
     }
+    let broken = tried - held;
     println!("{held} changed states still sound, {broken} not");
     assert!(held > 50_000 && broken > 50_000);
 }
