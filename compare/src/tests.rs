@@ -32,7 +32,32 @@ impl<F: Fn(&Tool, &Input, &mut Outcome)> Machine for Faulty<F> {
     }
 }
 
-/// The inputs' numbers in the shortest script for a fault that random runs find.
+/// The independent program, which takes what it is given for something else.
+struct Mistaken {
+    ports: fn(u32) -> u32,
+    input: fn(&Input) -> Input,
+    tool: fn(&Tool) -> Tool,
+}
+
+impl Mistaken {
+    const IN_NOTHING: Mistaken = Mistaken { ports: |ports| ports, input: Input::clone, tool: |tool| *tool };
+}
+
+impl Machine for Mistaken {
+    fn setup(&self, ports: u32, places: u32, tool: &mut Tool) -> u32 {
+        Independent.setup((self.ports)(ports), places, tool)
+    }
+
+    fn step(&self, tool: &mut Tool, input: &Input, reports: &mut Reports) -> u32 {
+        Independent.step(tool, &(self.input)(input), reports)
+    }
+
+    fn sound(&self, tool: &Tool) -> u32 {
+        Independent.sound(&(self.tool)(tool))
+    }
+}
+
+/// The shortest script for a fault that random runs find.
 fn found(ports: u32, places: u32, fault: impl Fn(&Tool, &Input, &mut Outcome)) -> Run {
     let faulty = Faulty(fault);
     let both = Both { proved: &faulty, independent: &Independent };
@@ -53,10 +78,6 @@ fn found(ports: u32, places: u32, fault: impl Fn(&Tool, &Input, &mut Outcome)) -
         }
     }
     panic!("the fault was not found");
-}
-
-fn numbers(run: &Run) -> Vec<u32> {
-    run.inputs.iter().map(|input| input.number).collect()
 }
 
 #[test]
@@ -90,25 +111,15 @@ fn a_wrong_answer_deep_in_a_run_takes_seven_inputs() {
         }
     });
     assert_eq!((run.ports, run.places), (1, 1));
-    let numbers = numbers(&run);
+    let numbers: Vec<u32> = run.inputs.iter().map(|input| input.number).collect();
     assert_eq!((numbers.len(), numbers[6]), (7, 19), "{numbers:?}");
 }
 
 #[test]
 fn a_fault_of_the_set_up_needs_no_input() {
-    struct CutsPorts;
-    impl Machine for CutsPorts {
-        fn setup(&self, ports: u32, places: u32, tool: &mut Tool) -> u32 {
-            Independent.setup(if ports == 260 { 4 } else { ports }, places, tool)
-        }
-        fn step(&self, tool: &mut Tool, input: &Input, reports: &mut Reports) -> u32 {
-            Independent.step(tool, input, reports)
-        }
-        fn sound(&self, tool: &Tool) -> u32 {
-            Independent.sound(tool)
-        }
-    }
-    let both = Both { proved: &CutsPorts, independent: &Independent };
+    let ports = |ports| if ports == 260 { 4 } else { ports };
+    let cuts = Mistaken { ports, ..Mistaken::IN_NOTHING };
+    let both = Both { proved: &cuts, independent: &Independent };
     let Err(finding @ Finding::Run(_)) = setups::compare(&both, &mut Rng::new(1)) else {
         panic!("the fault was not found");
     };
@@ -236,45 +247,26 @@ fn odd_names_and_codes_have_document_01s_answers() {
     assert_eq!(why, "the last input is answered 1, not 0");
 }
 
-/// A program that cuts a port to a byte differs only on odd numbers.
+/// A program that cuts a port to two bytes differs only on odd numbers.
 #[test]
 fn a_cut_number_is_found() {
-    struct Cuts;
-    impl Machine for Cuts {
-        fn setup(&self, ports: u32, places: u32, tool: &mut Tool) -> u32 {
-            Independent.setup(ports, places, tool)
-        }
-        fn step(&self, tool: &mut Tool, input: &Input, reports: &mut Reports) -> u32 {
-            Independent.step(tool, &Input { port: input.port & 0xFFFF, ..input.clone() }, reports)
-        }
-        fn sound(&self, tool: &Tool) -> u32 {
-            Independent.sound(tool)
-        }
-    }
-    let both = Both { proved: &Cuts, independent: &Independent };
-    let Some(finding @ Finding::Run(_)) = first_finding(&both) else { panic!("the fault was not found") };
-    let Finding::Run(run) = &finding else { unreachable!() };
-    assert_eq!(shortest(&both, run).inputs.len(), 1);
+    let input = |input: &Input| Input { port: input.port & 0xFFFF, ..input.clone() };
+    let cuts = Mistaken { input, ..Mistaken::IN_NOTHING };
+    let both = Both { proved: &cuts, independent: &Independent };
+    let Some(Finding::Run(run)) = first_finding(&both) else { panic!("the fault was not found") };
+    assert_eq!(shortest(&both, &run).inputs.len(), 1);
 }
 
-/// A program that holds some states for sound that aren't, and one that answers them.
+/// A program that holds some states for sound that aren't.
 #[test]
 fn a_fault_of_soundness_is_shown_with_the_bytes() {
-    struct Trusting;
-    impl Machine for Trusting {
-        fn setup(&self, ports: u32, places: u32, tool: &mut Tool) -> u32 {
-            Independent.setup(ports, places, tool)
-        }
-        fn step(&self, tool: &mut Tool, input: &Input, reports: &mut Reports) -> u32 {
-            Independent.step(tool, input, reports)
-        }
-        fn sound(&self, tool: &Tool) -> u32 {
-            let mut mended = *tool;
-            mended.carrier.iter_mut().for_each(|c| c.came_out &= 1);
-            Independent.sound(&mended)
-        }
-    }
-    let both = Both { proved: &Trusting, independent: &Independent };
+    let tool = |tool: &Tool| {
+        let mut mended = *tool;
+        mended.carrier.iter_mut().for_each(|c| c.came_out &= 1);
+        mended
+    };
+    let trusts = Mistaken { tool, ..Mistaken::IN_NOTHING };
+    let both = Both { proved: &trusts, independent: &Independent };
     let Some(finding @ Finding::Sound(_)) = first_finding(&both) else { panic!("the fault was not found") };
     let told = tell(&both, &finding);
     assert!(told.contains("proved       sound\nindependent  not sound\n"), "{told}");
