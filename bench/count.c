@@ -1,11 +1,12 @@
-/* A plugin of qemu's that counts the instructions of each call of one function. It prints a number for each call, in order.
+/* A plugin of qemu's that counts the instructions of each call of one function, and prints a number for each.
  *
  *   gcc -O2 -shared -fPIC -o count.so count.c
  *   qemu-x86_64 -plugin ./count.so -d plugin -D COUNTS PROGRAM ..
  *
- * A call begins with the first block of hm_step and ends with the next block of its only caller, caller_of_hm_step; all
- * instructions between are counted, in whatever function they are. Each counts where it runs: the length of a block is no
- * measure, since qemu may leave out the last instruction. (qemu reads a program's symbols only while it logs: -d.) */
+ * A call begins with the first block of hm_step and ends with the next block of its only caller, caller_of_hm_step;
+ * all instructions between are counted, in whatever function they are. Each counts where it runs:
+ * the length of a block is no measure, since qemu may leave out the last instruction.
+ * (qemu reads a program's symbols only while it logs: -d.) */
 #include <stddef.h>
 #include <stdint.h>
 #include <stdio.h>
@@ -63,7 +64,8 @@ static void translated(qemu_plugin_id_t id, struct qemu_plugin_tb *tb)
     size_t at;
     (void)id;
     for (at = 0; at < qemu_plugin_tb_n_insns(tb); at++)
-        qemu_plugin_register_vcpu_insn_exec_inline(qemu_plugin_tb_get_insn(tb, at), QEMU_PLUGIN_INLINE_ADD_U64, &count, 1);
+        qemu_plugin_register_vcpu_insn_exec_inline(qemu_plugin_tb_get_insn(tb, at), QEMU_PLUGIN_INLINE_ADD_U64,
+                                                   &count, 1);
     if (name && strcmp(name, "hm_step") == 0)
         qemu_plugin_register_vcpu_tb_exec_cb(tb, block_of_hm_step, QEMU_PLUGIN_CB_NO_REGS, NULL);
     if (name && strcmp(name, "caller_of_hm_step") == 0)

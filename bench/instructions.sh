@@ -1,11 +1,11 @@
 #!/usr/bin/env bash
-# Instructions of one input to the proved machine (one call of hm_step, all that it calls included): the mean over a mix, the
-# worst input, and how both grow with the number of live carriers.
+# Instructions of one input to the proved machine (one call of hm_step, all that it calls included):
+# the mean over a mix, the worst input, and how both grow with the number of live carriers.
 #
-#   bench/instructions.sh [PROGRAM]    PROGRAM is the release build of this folder, target/release/bench if none is given
+#   bench/instructions.sh [PROGRAM]    the release build of this folder; target/release/bench if none is given
 #
-# On an x86-64 machine valgrind's callgrind counts them. Elsewhere, or where valgrind is missing, qemu-x86_64 does, with the
-# plugin count.c. Where there is neither, it says so and ends without a failure.
+# On an x86-64 machine valgrind's callgrind counts them. Elsewhere, or where valgrind is missing, qemu-x86_64 does,
+# with the plugin count.c. Where there is neither, it says so and ends without a failure.
 set -euo pipefail
 here=$(cd "$(dirname "$0")" && pwd)
 program=${1:-$here/target/${CARGO_BUILD_TARGET:+$CARGO_BUILD_TARGET/}release/bench}
@@ -16,7 +16,8 @@ trap 'rm -rf "$work"' EXIT
 choose_counter() {
     if [ "$(uname -m)" = x86_64 ] && command -v valgrind >/dev/null; then
         counter=callgrind
-    elif command -v qemu-x86_64 >/dev/null && gcc -O2 -shared -fPIC -o "$work/count.so" "$here/count.c" 2>"$work/gcc"; then
+    elif command -v qemu-x86_64 >/dev/null &&
+        gcc -O2 -shared -fPIC -o "$work/count.so" "$here/count.c" 2>"$work/gcc"; then
         counter=qemu
     else
         echo "no instructions counted: neither valgrind on an x86-64 machine, nor qemu-x86_64 and gcc for its plugin"
@@ -62,8 +63,8 @@ print_mean() {
 
 worst_of() { sort -n "$1" | tail -n 1; }
 
-# Rows 1 to 3, 7, 11, 12 and 18 can't be accepted with 36 records, so fewer are tried as well. The row that takes the most is
-# then searched further.
+# Rows 1 to 3, 7, 11, 12 and 18 can't be accepted with 36 records, so fewer are tried as well.
+# The row that takes the most is then searched further.
 print_worst() {
     local carriers row
     for carriers in 32 33 34 35 36; do

@@ -3,9 +3,9 @@
 #
 #   diagrams/quotes.sh PROGRAM..       e.g.  diagrams/quotes.sh target/hawsermole
 #
-# Blocks marked `played` go to the command line: lines that begin with > are typed, the others are its output. Blocks marked
-# `c` are compiled by $CC, and one with a main is linked with the library and run by $EMULATOR, where that is set; the block
-# `printed` after it is what it prints.
+# Blocks marked `played` go to the command line: lines that begin with > are typed, the others are its output.
+# Blocks marked `c` are compiled by $CC, and one with a main is linked with the library and run by $EMULATOR,
+# where that is set; the block `printed` after it is what it prints.
 set -u
 [ $# -gt 0 ] || { echo "usage: $0 PROGRAM.." >&2; exit 2; }
 root=$(cd "$(dirname "$0")/.." && pwd)
@@ -41,7 +41,8 @@ run=0
 for source in "$work"/*.c; do
     [ -e "$source" ] || fail "no block is C"
     object=${source%.c}.o
-    ${CC:-cc} -std=c99 -Wall -Wextra -pedantic -Werror -I"$root/include" -c "$source" -o "$object" || fail "C doesn't compile"
+    ${CC:-cc} -std=c99 -Wall -Wextra -pedantic -Werror -I"$root/include" -c "$source" -o "$object" ||
+        fail "C doesn't compile"
     grep -q 'int main' "$source" || continue
     number=$(basename "$source" .c)
     printed=$(printf '%s/%02d.printed' "$work" $((${number#0} + 1)))

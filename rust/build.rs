@@ -1,4 +1,5 @@
-//! Links the proved machine's archive. `HAWSERMOLE_LIB_DIR` names the folder that holds it; without it, the repository's own.
+//! Links the proved machine's archive. `HAWSERMOLE_LIB_DIR` names the folder that holds it;
+//! without it, the repository's own.
 use std::path::PathBuf;
 
 const ARCHIVE: &str = "libhawsermole.a";

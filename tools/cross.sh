@@ -1,5 +1,6 @@
 #!/bin/sh
-# Installs what builds and runs x86-64 programs where the machine is another; does nothing on x86-64, or where all is there.
+# Installs what builds and runs x86-64 programs where the machine is another;
+# does nothing on x86-64, or where all is there.
 set -eu
 [ "$(uname -m)" != x86_64 ] || exit 0
 have() {

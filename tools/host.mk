@@ -1,6 +1,6 @@
-# The proved archive is for x86-64. On such a machine its programs are built and run as they are; on another, Debian's
-# cross compilers build them and an emulator runs them. NATIVE is the folder of an archive for this machine's own processor,
-# for what an emulator can't tell or run: times, AddressSanitizer.
+# The proved archive is for x86-64. On such a machine its programs are built and run as they are;
+# on another, Debian's cross compilers build them and an emulator runs them. NATIVE is the folder of an archive for
+# this machine's own processor, for what an emulator can't tell or run: times, AddressSanitizer.
 ifeq ($(shell uname -m),x86_64)
 CARGO = cargo
 EMULATOR =

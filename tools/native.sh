@@ -1,7 +1,7 @@
 #!/bin/sh
-# native.sh DIR: writes DIR/libhawsermole.a for the processor of this machine, compiled by the kit's own clang from the module
-# that the proved archive is compiled from. The kit answers for x86-64 alone: elsewhere this archive is for measuring and for
-# tools that an emulator can't run, and not for a product.
+# native.sh DIR: writes DIR/libhawsermole.a for the processor of this machine, compiled by the kit's
+# own clang from the module that the proved archive is compiled from. The kit answers for x86-64 alone:
+# elsewhere this archive is for measuring and for tools that an emulator can't run, and not for a product.
 set -eu
 [ $# -eq 1 ] || { echo "usage: tools/native.sh DIR" >&2; exit 2; }
 mkdir -p "$1"

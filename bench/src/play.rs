@@ -1,5 +1,5 @@
-//! Inputs played to the proved machine alone, for what counts instructions. It prints a line for each call of `hm_step`:
-//! CARRIERS NUMBER ANSWER NAMES PORT VALUE NAME CODES   (CODES is how many)
+//! Inputs played to the proved machine alone, for what counts instructions. Each call of `hm_step` prints a line,
+//! `CARRIERS NUMBER ANSWER NAMES PORT VALUE NAME CODES`, where CODES is how many there were.
 
 use hawsermole::{Row, ROWS};
 use plainly::gen::{Input, Rng};

@@ -101,8 +101,10 @@ mod tests {
     #[test]
     fn records_that_are_made_and_go() {
         let mut tool = Tool::setup(1, 0).unwrap();
-        let made = "  CarrierNotification(AB): announce a carrier\n  accepted\n  carrier AB: record made, ID NOT READ\n  \
-                    carrier AB: record made, SLOT MAP NOT READ\n  carrier AB: record made, NOT ACCESSED\n";
+        let made = "  CarrierNotification(AB): announce a carrier\n  accepted\n\
+                    \x20 carrier AB: record made, ID NOT READ\n\
+                    \x20 carrier AB: record made, SLOT MAP NOT READ\n\
+                    \x20 carrier AB: record made, NOT ACCESSED\n";
         assert_eq!(explained(&mut tool, Input::CarrierNotification { name: b"AB" }), made);
         let gone = explained(&mut tool, Input::CancelCarrierNotification { name: b"AB" });
         assert!(gone.ends_with("  carrier AB: record gone, was NOT ACCESSED\n"), "{gone}");
@@ -112,8 +114,9 @@ mod tests {
     fn states_of_ports_and_carriers() {
         let mut tool = Tool::setup(1, 0).unwrap();
         tool.step(&Input::Bind { port: 1, name: b"AB" }).unwrap();
-        let started = "  LoadStart(1): a pod starts to arrive\n  accepted\n  port 1: READY TO LOAD to TRANSFER BLOCKED\n  \
-                       port 1: RESERVED to NOT RESERVED\n";
+        let started = "  LoadStart(1): a pod starts to arrive\n  accepted\n\
+                       \x20 port 1: READY TO LOAD to TRANSFER BLOCKED\n\
+                       \x20 port 1: RESERVED to NOT RESERVED\n";
         assert_eq!(explained(&mut tool, Input::LoadStart { port: 1 }), started);
         tool.step(&Input::LoadDone { port: 1 }).unwrap();
         let read = explained(&mut tool, Input::IdRead { port: 1, name: b"AC" });

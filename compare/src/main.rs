@@ -1,6 +1,6 @@
-//! Plays the same inputs to the proved machine and to the independent program, and compares answer, whole state, all seven
-//! report entries and the count, byte for byte. A difference is shown by the shortest script that shows it, and ends the
-//! comparison with status 1.
+//! Plays the same inputs to the proved machine and to the independent program, and compares answer, whole state,
+//! all seven report entries and the count, byte for byte. A difference is shown by the shortest script that shows
+//! it, and ends the comparison with status 1.
 //!
 //! `compare [N]`: some N inputs in each of the large parts; 100,000 where no N is given.
 

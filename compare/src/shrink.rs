@@ -7,7 +7,8 @@ use crate::machine::{Both, Outcome};
 use crate::play::unlawful;
 use crate::script::Run;
 
-/// After how many inputs of the run the programs differ, or are both against document 01: 0 where they differ at the set-up.
+/// After how many inputs of the run the programs differ, or are both against document 01:
+/// 0 where they differ at the set-up.
 pub fn differs_after(both: &Both, run: &Run) -> Option<usize> {
     let Some((_, mut tool)) = both.setup(run.ports, run.places) else {
         return Some(0);
@@ -35,8 +36,8 @@ fn cut(both: &Both, mut run: Run) -> Option<Run> {
     Some(run)
 }
 
-/// Drops inputs, singly and together, while a difference stays; then takes the smallest set-up and the plainest parts that
-/// still show one. In the end no one input and no two can be left out.
+/// Drops inputs, singly and together, while a difference stays; then takes the smallest set-up and the plainest
+/// parts that still show one. In the end no one input and no two can be left out.
 pub fn shortest(both: &Both, run: &Run) -> Run {
     let Some(mut best) = cut(both, run.clone()) else {
         return run.clone();

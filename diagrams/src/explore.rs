@@ -1,13 +1,13 @@
 //! Finds the transitions: every input to every tool that runs from a set-up reach, and what the reports say.
 //!
-//! The search is complete within its bounds: all runs, of any length, of the tools in [`SETUPS`] with inputs made of the ports of
-//! the tool (and 0), the names in [`NAMES`] (and none), every buffer place, both values of every choice, and one slot map. A tool
-//! that was met before isn't followed again, so the search ends by itself.
+//! The search is complete within its bounds: all runs, of any length, of the tools in [`SETUPS`] with inputs made
+//! of the ports of the tool (and 0), the names in [`NAMES`] (and none), every buffer place, both values of every
+//! choice, and one slot map. A tool that was met before isn't followed again, so the search ends by itself.
 use hawsermole::{Argument, Input, Model, Parts, Reports, Row, Tool, ROWS, TOOL_BYTES};
 use std::collections::{BTreeMap, BTreeSet, HashSet, VecDeque};
 
-/// Ports and buffer places. One port and two names meet all that needs two carriers: a name that isn't the one announced. More
-/// ports, places and names add tools but no transition; `diagrams --wide` sees to that.
+/// Ports and buffer places. One port and two names meet all that needs two carriers: a name that isn't the one
+/// announced. More ports, places and names add tools but no transition; `diagrams --wide` sees to that.
 pub const SETUPS: [(u32, u32); 2] = [(1, 0), (1, 1)];
 pub const NAMES: [&[u8]; 2] = [b"A", b"B"];
 
@@ -67,8 +67,8 @@ pub fn explore_from(ports: u32, places: u32, names: &[&[u8]], found: &mut Found)
     found.tools += tools;
 }
 
-/// Calls with each accepted input to each tool that is reached, breadth first: the tool after it, the input, its reports. Gives
-/// the number of tools.
+/// Calls with each accepted input to each tool that is reached, breadth first: the tool after it, the input,
+/// its reports. Gives the number of tools.
 pub fn each_step(
     ports: u32,
     places: u32,

@@ -1,7 +1,7 @@
 //! Where each state stands and which way each transition goes: the only part of a picture that is made by hand.
 //!
-//! Which states and transitions there are, and the words on them, come from the search. [`plan`](crate::plan) fails where the two
-//! don't meet, in either direction.
+//! Which states and transitions there are, and the words on them, come from the search.
+//! [`plan`](crate::plan) fails where the two don't meet, in either direction.
 use hawsermole::Model;
 
 /// An end of a transition. `NoRecord` and `SetUp` are drawn as small dots, one for each transition.

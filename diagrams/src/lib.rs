@@ -1,6 +1,6 @@
-//! The state models of document 01 as pictures, found by running the proved machine: [`explore`] finds every transition that a
-//! run from set-up can cause, [`layout`] says where things stand, [`plan`] joins the two, [`shape`] sees that nothing lies on
-//! anything else, and [`svg`] writes. [`walk`] makes tables of played scripts.
+//! The state models of document 01 as pictures, found by running the proved machine: [`explore`] finds every
+//! transition that a run from set-up can cause, [`layout`] says where things stand, [`plan`] joins the two,
+//! [`shape`] sees that nothing lies on anything else, and [`svg`] writes. [`walk`] makes tables of played scripts.
 #![forbid(unsafe_code)]
 
 pub mod explore;

@@ -12,7 +12,8 @@ pub fn svg(plan: &Plan) -> String {
     let legend = legend(plan);
     let total = height + LINE * legend.len() as i32 + 10;
     let mut out = format!(
-        "<svg xmlns=\"http://www.w3.org/2000/svg\" width=\"{WIDTH}\" height=\"{total}\" viewBox=\"0 0 {WIDTH} {total}\" \
+        "<svg xmlns=\"http://www.w3.org/2000/svg\" \
+         width=\"{WIDTH}\" height=\"{total}\" viewBox=\"0 0 {WIDTH} {total}\" \
          font-family=\"Helvetica, Arial, Liberation Sans, sans-serif\" font-size=\"{SIZE}\">\n\
          <title>Model {}: {model}</title>\n\
          <rect width=\"{WIDTH}\" height=\"{total}\" fill=\"white\"/>\n",

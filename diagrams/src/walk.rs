@@ -1,4 +1,5 @@
-//! Plays a script of the command line and writes it as a table: each input, its answer and reports, what stands after it.
+//! Plays a script of the command line and writes it as a table: each input, its answer and its reports,
+//! and what stands after it.
 use hawsermole::{words, Argument, Carrier, Input, Parts, Port, Refusal, Reports, Row, Tool};
 
 /// A script's steps as rows of a Markdown table.

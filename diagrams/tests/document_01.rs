@@ -5,8 +5,8 @@ use std::sync::LazyLock;
 
 static FOUND: LazyLock<Found> = LazyLock::new(explore);
 
-/// The changes that each row of document 01 brings to a tool that runs reach, as `model old>new`; rows that bring none are left
-/// out (LoadDone, Open).
+/// The changes that each row of document 01 brings to a tool that runs reach, as `model old>new`;
+/// rows that bring none are left out (LoadDone, Open).
 const ROWS: [(u32, &str); 24] = [
     (1, "3 0>1, 4 0>1, 5 0>1, 6 0>1, 7 0>1"),
     (2, "3 1>0, 4 1>0, 5 1>0, 6 1>0, 7 1>0"),

@@ -107,8 +107,8 @@ fn labels_and_scripts_are_there() {
     }
 }
 
-/// "Send it again. If it was in, it is now refused or changes nothing": tried after every accepted input within the bounds
-/// of the search.
+/// "Send it again. If it was in, it is now refused or changes nothing": tried after every accepted input within
+/// the bounds of the search.
 #[test]
 fn an_input_sent_twice_does_no_more_than_once() {
     let mut tried = 0;

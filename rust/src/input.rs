@@ -5,9 +5,9 @@ use core::fmt;
 
 /// One input: document 01's 26 rows, with their arguments in its order.
 ///
-/// A port, place or value is any 32-bit number, a name and codes are any bytes of any length: what is outside its range is
-/// answered with [`Refusal::OutOfRange`](crate::Refusal::OutOfRange), not cut. Port 0 and an empty name mean "not given", where
-/// the case says so.
+/// A port, place or value is any 32-bit number, a name and codes are any bytes of any length:
+/// what is outside its range is answered with [`Refusal::OutOfRange`](crate::Refusal::OutOfRange), not cut.
+/// Port 0 and an empty name mean "not given", where the case says so.
 #[expect(
     missing_docs,
     reason = "each case says what its arguments are; a line for each would hide the table"
@@ -52,7 +52,8 @@ pub enum Input<'a> {
     MoveIn { port: u32, place: u32 },
     /// 19: opens a carrier.
     Open { name: &'a [u8] },
-    /// 20: the slot map of an open carrier was read: 25 codes, each 0 to 5 (see [`slot_code`](crate::words::slot_code)).
+    /// 20: the slot map of an open carrier was read: 25 codes, each 0 to 5;
+    /// [`slot_code`](crate::words::slot_code) has their words.
     SlotMap { name: &'a [u8], codes: &'a [u8] },
     /// 21: the wafers are about to be touched.
     AccessStart { name: &'a [u8] },

@@ -1,9 +1,9 @@
-//! *Verify the pod before you open it.* SEMI E87 carrier management for small controllers inside wafer tools: load ports, pods
-//! and the buffer, one input at a time, no heap.
+//! *Verify the pod before you open it.* SEMI E87 carrier management for small controllers inside wafer tools:
+//! load ports, pods and the buffer, one input at a time, no heap.
 //!
-//! The machine itself is an archive, `libhawsermole.a`, proved to give exactly the answer, the state and the reports that
-//! document 01 lays down. This crate wraps it: an [`Input`] has document 01's name and arguments, a [`Refusal`] is one of its
-//! eight reasons, and [`Reports`] gives what changed.
+//! The machine itself is an archive, `libhawsermole.a`, proved to give exactly the answer, the state and the
+//! reports that document 01 lays down. This crate wraps it: an [`Input`] has document 01's name and arguments,
+//! a [`Refusal`] is one of its eight reasons, and [`Reports`] gives what changed.
 //!
 //! ```
 //! use hawsermole::{Input, Model, Refusal, Subject, Tool};
@@ -30,11 +30,11 @@
 //! # Ok::<(), Refusal>(())
 //! ```
 //!
-//! No input is too odd: numbers are 32 bits and are not cut, names and codes may be any bytes of any length, and a [`Tool`] may
-//! be made of any bytes. A refusal leaves the tool as it was.
+//! No input is too odd: numbers are 32 bits and are not cut, names and codes may be any bytes of any length,
+//! and a [`Tool`] may be made of any bytes. A refusal leaves the tool as it was.
 //!
-//! The archive is for one target (x86-64 Linux, unless yours was built for another) and needs `memcpy`, `memset` and some stack
-//! for a step: `include/hawsermole.h` gives the figure as `HM_STACK_BYTES`.
+//! The archive is for one target (x86-64 Linux, unless yours was built for another). It needs `memcpy`, `memset` and
+//! `memcmp` at most, and some stack: `include/hawsermole.h` gives the figure as `HM_STACK_BYTES`.
 #![no_std]
 #![deny(missing_docs, unsafe_op_in_unsafe_fn)]
 

@@ -1,5 +1,5 @@
-//! The archive's functions as they are, for programs that keep a tool in bytes of their own and measure or compare the archive
-//! itself. Everybody else is better off with [`Tool`](crate::Tool), which needs no `unsafe`.
+//! The archive's functions as they are, for programs that keep a tool in bytes of their own and measure or compare
+//! the archive itself. Everybody else is better off with [`Tool`](crate::Tool), which needs no `unsafe`.
 
 /// How many bytes a tool has.
 pub const TOOL_BYTES: usize = 1891;
@@ -50,8 +50,8 @@ pub unsafe fn step(
     codes: &[u8],
 ) -> u32 {
     let (name_length, codes_length) = (name.len() as u64, codes.len() as u64);
-    // SAFETY: tool and reports are lent to the archive and apart from each other, and the caller answers for their sizes. A
-    // slice's pointer is never null, also when it is empty, and the archive reads no further than its length.
+    // SAFETY: tool and reports are lent to the archive, apart from each other, and the caller answers for their sizes.
+    // A slice's pointer is never null, also when it is empty, and the archive reads no further than its length.
     unsafe {
         hm_step(tool, reports, number, port, value, name.as_ptr(), name_length, codes.as_ptr(), codes_length)
     }

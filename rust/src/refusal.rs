@@ -68,7 +68,8 @@ impl Refusal {
     pub const fn text(self) -> &'static str {
         match self {
             Refusal::OutOfRange => {
-                "a port, place, value or name is outside its range, the input number isn't 1 to 26, or the state isn't sound"
+                "a port, place, value or name is outside its range, the input number isn't 1 to 26, \
+                 or the state isn't sound"
             }
             Refusal::NoRecord => "the name has no record",
             Refusal::NameTaken => "the name is taken",

@@ -21,8 +21,8 @@ const CARRIERS_START: usize = HEAD_BYTES + PORTS * PORT_BYTES;
 
 /// A tool: its ports, its buffer and the carriers that it knows of.
 ///
-/// A tool is its bytes. It may be cloned, kept in battery-backed memory and made again from what was kept: a damaged one isn't
-/// [sound](Tool::is_sound) and refuses every input with [`Refusal::OutOfRange`].
+/// A tool is its bytes. It may be cloned, kept in battery-backed memory and made again from what was kept:
+/// a damaged one isn't [sound](Tool::is_sound) and refuses every input with [`Refusal::OutOfRange`].
 ///
 /// ```
 /// use hawsermole::{Input, Refusal, Tool};
@@ -46,8 +46,8 @@ pub struct Tool {
 }
 
 impl Tool {
-    /// A tool of 1 to 4 ports and 0 to 16 buffer places; anything else is refused. No places is a fixed buffer tool, where pods
-    /// open at the port; with places it is an internal buffer tool with one inner opener.
+    /// A tool of 1 to 4 ports and 0 to 16 buffer places; anything else is refused. No places is a fixed buffer
+    /// tool, where pods open at the port; with places it is an internal buffer tool with one inner opener.
     ///
     /// ```
     /// use hawsermole::{Refusal, Tool};
@@ -107,8 +107,8 @@ impl Tool {
         Ok(Reports::new(reports))
     }
 
-    /// Whether every field is in its range and all of document 01's conditions on a state hold. A tool from a set-up is sound,
-    /// and every input leaves it so.
+    /// Whether every field is in its range and all of document 01's conditions on a state hold.
+    /// A tool from a set-up is sound, and every input leaves it so.
     pub fn is_sound(&self) -> bool {
         machine::sound(&self.bytes)
     }
@@ -205,7 +205,8 @@ impl Port {
     }
 }
 
-/// A carrier's record as the tool holds it. The numbers are document 01's; [`words`](crate::words) has E87's words for them.
+/// A carrier's record as the tool holds it. The numbers are document 01's;
+/// [`words`](crate::words) has E87's words for them.
 #[derive(Clone, Copy, Debug, PartialEq, Eq, Hash)]
 pub struct Carrier {
     /// The name.

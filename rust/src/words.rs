@@ -1,6 +1,7 @@
 //! E87's words for document 01's numbers, in one place for everybody who prints them.
 //!
-//! Where document 01 has no word for a number (only a tool that isn't sound holds such a number), the word is `out of range`.
+//! Where document 01 has no word for a number (only a tool that isn't sound holds such a number),
+//! the word is `out of range`.
 use crate::Model;
 
 const OUT: &str = "out of range";

@@ -99,7 +99,8 @@ odd_bytes() {
     printf 'setup 0\n1  none\n1  none\n1  none\n' | want 0
     printf 'setup 1 0\nBind 1 A\377\nOpen \303\050\nOpen A\000B\n' | play
     outcome "names that aren't UTF-8"
-    printf 'setup 0\n' | want 2 "hawsermole: line 2: unknown word '\\xfe\\xff\\x00': expected setup, in, dump, state or an input's name such as Bind"
+    expected="expected setup, in, dump, state or an input's name such as Bind"
+    printf 'setup 0\n' | want 2 "hawsermole: line 2: unknown word '\\xfe\\xff\\x00': $expected"
     printf 'setup 1 0\n\376\377\000\n' | play
     outcome "a word that isn't UTF-8"
 }
@@ -163,7 +164,8 @@ lost_output() {
     outcome "a full standard output"
 }
 
-# The script stays open: each answer must come before the next line is sent. A program that waits is ended after 20 seconds.
+# The script stays open: each answer must come before the next line is sent.
+# A program that waits is ended after 20 seconds.
 held_open() {
     mkfifo "$work/to" "$work/from"
     want 0 <"$root/examples/twelve_rows.expected"

@@ -1,6 +1,7 @@
 #!/bin/sh
 # Holds docs/NARROWINGS.md, docs/SCENARIOS.md and the scripts of this folder to each other.
-# Says what is wrong, line by line, and ends with status 1; else one line and status 0. Playing the scripts is the runner's work.
+# Says what is wrong, line by line, and ends with status 1; else one line and status 0.
+# Playing the scripts is tests/cli/run.sh's work.
 cd "$(dirname "$0")/../.." || exit 1
 
 narrowings=docs/NARROWINGS.md

@@ -60,7 +60,8 @@ pub fn mixed_up(both: &Both, total: u64, rng: &mut Rng) -> Result<Damage, Findin
     Ok(damage)
 }
 
-/// Tools of random bytes: any, small ones, and small ones in a tool whose numbers of ports, places and records are good.
+/// Tools of random bytes: any, small ones, and small ones in a tool whose numbers of ports,
+/// places and records are good.
 pub fn random_bytes(both: &Both, total: u64, rng: &mut Rng) -> Result<Damage, Finding> {
     let mut damage = Damage::default();
     while damage.tally.inputs < total {
@@ -103,8 +104,8 @@ fn one(both: &Both, damage: &mut Damage, tool: &Tool, input: &Input) -> Result<(
     Ok(())
 }
 
-/// An input that the state before the damage might accept. Every other one is accepted by any sound state: a port that isn't
-/// in goes in, and one that is stays.
+/// An input that the state before the damage might accept. Every other one is accepted by any sound state:
+/// a port that isn't in goes in, and one that is stays.
 fn some_input(whole: &Tool, rng: &mut Rng) -> Input {
     if rng.chance(50) {
         return Input { number: 10, port: 1, value: 1, ..Input::default() };

@@ -1,4 +1,5 @@
-//! Odd numbers for number, port and value, names of up to 300 bytes of every value, and codes of every length and value.
+//! Odd numbers for number, port and value, names of up to 300 bytes of every value,
+//! and codes of every length and value.
 
 use plainly::gen::{random_run_input, Input, Rng};
 
