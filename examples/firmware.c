@@ -102,10 +102,10 @@ static int feed(const struct input *in)
         return 0;
     }
     printf("%s: accepted\n", in->text);
+    kept = tool; /* before the reports go out, so that the copy has all that the host was told */
     for (i = 0; i < reports.count; i++) {
         tell(&reports.items[i]);
     }
-    kept = tool;
     return 1;
 }
 
