@@ -57,4 +57,4 @@ pub use raw::{REPORTS_BYTES, TOOL_BYTES};
 pub use refusal::Refusal;
 pub use report::{Model, Report, Reports, Subject, REPORTS};
 pub use row::{Argument, Row, ROWS};
-pub use tool::{Carrier, Port, Tool, CARRIERS, PORTS, SLOTS};
+pub use tool::{Carrier, Port, Tool, PORTS, RECORDS, SLOTS};

@@ -1,5 +1,18 @@
 //! The archive's functions as they are, for programs that keep a tool in bytes of their own and measure or compare
 //! the archive itself. Everybody else is better off with [`Tool`](crate::Tool), which needs no `unsafe`.
+//!
+//! ```
+//! use hawsermole::raw::{self, REPORTS_BYTES, TOOL_BYTES};
+//!
+//! assert!(raw::sizes_agree());
+//! let (mut tool, mut reports) = ([0; TOOL_BYTES], [0; REPORTS_BYTES]);
+//! // SAFETY: the sizes agree.
+//! let answer = unsafe {
+//!     raw::hm_setup(&mut tool, 2, 0);
+//!     raw::step(&mut tool, &mut reports, 13, 1, 0, b"", b"")
+//! };
+//! assert_eq!((answer, reports[0]), (0, 1));
+//! ```
 
 /// How many bytes a tool has.
 pub const TOOL_BYTES: usize = 1891;
@@ -71,7 +84,7 @@ mod tests {
     #[test]
     fn sizes_are_the_sum_of_their_parts() {
         use crate::tool::{CARRIER_BYTES, HEAD_BYTES, PORT_BYTES};
-        assert_eq!(TOOL_BYTES, HEAD_BYTES + crate::PORTS * PORT_BYTES + crate::CARRIERS * CARRIER_BYTES);
+        assert_eq!(TOOL_BYTES, HEAD_BYTES + crate::PORTS * PORT_BYTES + crate::RECORDS * CARRIER_BYTES);
         assert_eq!(REPORTS_BYTES, 1 + crate::REPORTS * crate::report::REPORT_BYTES);
     }
 }

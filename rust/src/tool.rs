@@ -10,7 +10,7 @@ use core::fmt;
 /// The most ports that a tool has.
 pub const PORTS: usize = 4;
 /// The most carrier records that a tool holds.
-pub const CARRIERS: usize = 36;
+pub const RECORDS: usize = 36;
 /// The slots of a carrier.
 pub const SLOTS: usize = 25;
 
@@ -144,7 +144,7 @@ impl Tool {
     /// assert_eq!(tool.carriers().last().unwrap().port, 1);
     /// ```
     pub fn carriers(&self) -> impl ExactSizeIterator<Item = Carrier> + '_ {
-        let count = usize::from(self.bytes[2]).min(CARRIERS);
+        let count = usize::from(self.bytes[2]).min(RECORDS);
         (0..count).map(|place| {
             Carrier::read(&self.bytes[CARRIERS_START + place * CARRIER_BYTES..][..CARRIER_BYTES])
         })
@@ -315,7 +315,7 @@ mod tests {
     #[test]
     fn counts_past_the_tables_are_not_followed() {
         let tool = Tool::from_bytes(&[255; TOOL_BYTES]);
-        assert_eq!((tool.ports().len(), tool.carriers().len()), (PORTS, CARRIERS));
+        assert_eq!((tool.ports().len(), tool.carriers().len()), (PORTS, RECORDS));
         assert_eq!(tool.ports().chain(tool.ports()).count(), 8);
         assert!(!tool.is_sound());
     }
