@@ -42,7 +42,7 @@ fn lent<const N: usize>(to: &mut impl Plain) -> &mut [u8; N] {
     to.bytes_mut().try_into().expect("as many bytes as the archive's")
 }
 
-/// The program written from document 01 alone.
+/// The program written from document 01 without sight of the code.
 pub struct Independent;
 
 impl Machine for Independent {

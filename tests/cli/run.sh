@@ -51,6 +51,9 @@ play() {
     echo $? >"$work/status"
 }
 
+# edit PART SCRIPT: keeps of `out` or `err` what is ours to say, by a script of sed's.
+edit() { sed "$2" "$work/$1" >"$work/kept" && mv "$work/kept" "$work/$1"; }
+
 scripts() {
     for script in "$1"/*.script; do
         [ -e "$script" ] || continue
@@ -135,18 +138,18 @@ wrong_calls() {
 unusable() {
     want 2 "hawsermole: $1: REASON" </dev/null
     play "$1" </dev/null
-    sed "s|^\(hawsermole: $1: \)..*|\1REASON|" "$work/err" >"$work/kept" && mv "$work/kept" "$work/err"
+    edit err "s|^\(hawsermole: $1: \)..*|\1REASON|"
     outcome "$2"
 }
 
 prints() {
     echo 'usage: hawsermole [--explain] [FILE]' | want 0
     play --help </dev/null
-    sed -n 1p "$work/out" >"$work/kept" && mv "$work/kept" "$work/out"
+    edit out '1!d'
     outcome "--help"
     echo 'hawsermole N.N.N' | want 0
     play --version </dev/null
-    sed 's/[0-9][0-9]*/N/g' "$work/out" >"$work/kept" && mv "$work/kept" "$work/out"
+    edit out 's/[0-9][0-9]*/N/g'
     outcome "--version"
 }
 
@@ -160,7 +163,7 @@ lost_output() {
     hawsermole "$work/long" >/dev/full 2>"$work/err"
     echo $? >"$work/status"
     : >"$work/out"
-    sed 's/^\(hawsermole: standard output: \)..*/\1REASON/' "$work/err" >"$work/kept" && mv "$work/kept" "$work/err"
+    edit err 's/^\(hawsermole: standard output: \)..*/\1REASON/'
     outcome "a full standard output"
 }
 
