@@ -1,7 +1,7 @@
 //! A step of either program, as one kind of function.
 
 use hawsermole::raw;
-use plainly::{Plain, Reports, Tool};
+use independent::{Plain, Reports, Tool};
 
 pub type Step = fn(&mut Tool, u32, u32, u32, &[u8], &[u8], &mut Reports) -> u32;
 

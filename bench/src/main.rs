@@ -24,7 +24,7 @@ fn number(word: &str, from: usize, to: usize) -> Option<usize> {
 /// Nothing where the words can't be read.
 fn run(words: &[&str]) -> Option<Result<(), String>> {
     let count = |word: &str| number(word, 1, usize::MAX);
-    let carriers = |word: &str| number(word, 0, plainly::MAX_CARRIERS);
+    let carriers = |word: &str| number(word, 0, independent::MAX_CARRIERS);
     match words {
         ["time"] => return Some(time::time(1_000_000, 7)),
         ["time", n] => return Some(time::time(count(n)?, 7)),

@@ -1,8 +1,8 @@
 //! A run that is kept near a number of live carriers, recorded so that both programs play the same inputs.
 
 use hawsermole::Parts;
-use plainly::gen::{random_run_input, Rng};
-use plainly::{setup, step, Reports, Tool, MAX_CARRIERS};
+use independent::gen::{random_run_input, Rng};
+use independent::{setup, step, Reports, Tool, MAX_CARRIERS};
 
 /// An input whose bytes stand one after another with those of the others, so that reading them costs little.
 struct Recorded {

@@ -2,8 +2,8 @@
 //! `CARRIERS NUMBER ANSWER NAMES PORT VALUE NAME CODES`, where CODES is how many there were.
 
 use hawsermole::{Row, ROWS};
-use plainly::gen::{Input, Rng};
-use plainly::{Reports, Tool};
+use independent::gen::{Input, Rng};
+use independent::{Reports, Tool};
 
 use crate::machine::caller_of_hm_step;
 use crate::mix::record;

@@ -1,8 +1,8 @@
 //! Prepared states: sound tools of P = 4 and B = 16 with a given number of records, and an input for each.
 
-use plainly::gen::{padded, pool_name, shuffle, Input, Rng, POOL};
-use plainly::{accessing, movement, place, setup, sound, status, step, tag, transfer};
-use plainly::{Carrier, Plain, Port, Reports, Tool, MAX_CARRIERS, NAME_LEN};
+use independent::gen::{padded, pool_name, shuffle, Input, Rng, POOL};
+use independent::{accessing, movement, place, setup, sound, status, step, tag, transfer};
+use independent::{Carrier, Plain, Port, Reports, Tool, MAX_CARRIERS, NAME_LEN};
 
 /// Families of names, each slow to tell apart in another way.
 pub const FAMILIES: [&str; 6] = ["mixed", "prefix", "suffix", "middle", "short", "permuted"];

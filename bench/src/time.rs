@@ -3,7 +3,7 @@
 use std::hint::black_box;
 use std::time::Instant;
 
-use plainly::{step, step_known_sound, Plain, Reports, Tool};
+use independent::{step, step_known_sound, Plain, Reports, Tool};
 
 use crate::machine::{caller_of_hm_step, reading_alone, Step};
 use crate::mix::{record, Mix};

@@ -1,8 +1,8 @@
 //! The two programs behind one face: the proved machine, by its C interface, and the independent program.
 
 use hawsermole::raw;
-use plainly::gen::Input;
-use plainly::{Plain, Reports, Tool};
+use independent::gen::Input;
+use independent::{Plain, Reports, Tool};
 
 pub trait Machine {
     fn setup(&self, ports: u32, places: u32, tool: &mut Tool) -> u32;
@@ -47,15 +47,15 @@ pub struct Independent;
 
 impl Machine for Independent {
     fn setup(&self, ports: u32, places: u32, tool: &mut Tool) -> u32 {
-        plainly::setup(ports, places, tool)
+        independent::setup(ports, places, tool)
     }
 
     fn step(&self, tool: &mut Tool, input: &Input, reports: &mut Reports) -> u32 {
-        plainly::step(tool, input.number, input.port, input.value, &input.name, &input.codes, reports)
+        independent::step(tool, input.number, input.port, input.value, &input.name, &input.codes, reports)
     }
 
     fn sound(&self, tool: &Tool) -> u32 {
-        plainly::sound(tool) as u32
+        independent::sound(tool) as u32
     }
 }
 

@@ -16,11 +16,11 @@ mod tests;
 
 use std::process::ExitCode;
 
+use independent::gen::Rng;
 use machine::{Both, Independent, Proved};
 use pairs::{allowed, Pairs};
 use parts::damaged::Damage;
 use parts::{damaged, edges, odd, runs, setups, states, twelve};
-use plainly::gen::Rng;
 use play::{Finding, Tally};
 
 const SEED: u64 = 20_870_312;

@@ -1,7 +1,7 @@
 //! Inputs given to both programs, counted, and what is found where they differ.
 
-use plainly::gen::Input;
-use plainly::Tool;
+use independent::gen::Input;
+use independent::Tool;
 
 use crate::machine::{Both, Outcome};
 use crate::pairs::{may_answer, Pairs};
@@ -44,7 +44,7 @@ impl Tally {
 
 /// Why an outcome on which the programs agree is against document 01, whatever the row.
 pub fn unlawful(before: &Tool, input: &Input, o: &Outcome) -> Option<String> {
-    use plainly::Plain;
+    use independent::Plain;
     if !may_answer(input.number, o.answer) {
         return Some(format!("row {} has no answer {}", input.number, o.answer));
     }

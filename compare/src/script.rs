@@ -2,8 +2,8 @@
 
 use std::fmt::Write;
 
-use plainly::gen::Input;
-use plainly::{Reports, Tool};
+use independent::gen::Input;
+use independent::{Reports, Tool};
 
 use crate::machine::Outcome;
 
@@ -63,7 +63,7 @@ pub fn tabled(reports: &Reports) -> String {
 }
 
 /// The entries that count, however large the count is.
-fn listed(reports: &Reports) -> impl Iterator<Item = &plainly::Report> {
+fn listed(reports: &Reports) -> impl Iterator<Item = &independent::Report> {
     reports.items.iter().take(reports.count as usize)
 }
 
@@ -73,13 +73,13 @@ fn unpadded(name: &[u8; 16]) -> &[u8] {
 }
 
 const HEAD: usize = 3;
-const PORT: usize = size_of::<plainly::Port>();
-const CARRIER: usize = size_of::<plainly::Carrier>();
+const PORT: usize = size_of::<independent::Port>();
+const CARRIER: usize = size_of::<independent::Carrier>();
 const CARRIERS: usize = HEAD + 4 * PORT;
 
 /// A tool's bytes: its head, its ports, then the records up to the last that isn't zero.
 pub fn bytes(tool: &Tool) -> String {
-    use plainly::Plain;
+    use independent::Plain;
     let all = tool.bytes();
     let mut out = format!("  head      {}\n", hex(&all[..HEAD]));
     for (p, port) in all[HEAD..CARRIERS].chunks(PORT).enumerate() {
@@ -121,7 +121,7 @@ pub fn field(at: usize) -> String {
 #[cfg(test)]
 mod tests {
     use super::*;
-    use plainly::{setup, step, Plain};
+    use independent::{setup, step, Plain};
 
     #[test]
     fn lines_are_the_command_lines() {

@@ -1,7 +1,7 @@
 //! The shortest script that still shows a difference.
 
-use plainly::gen::Input;
-use plainly::{Carrier, Tool};
+use independent::gen::Input;
+use independent::{Carrier, Tool};
 
 use crate::machine::{Both, Outcome};
 use crate::play::unlawful;

@@ -2,8 +2,8 @@
 
 use std::fmt::Write;
 
-use plainly::gen::Input;
-use plainly::{Plain, Tool};
+use independent::gen::Input;
+use independent::{Plain, Tool};
 
 use crate::machine::{outcome, set_up, Both, Outcome};
 use crate::play::Finding;

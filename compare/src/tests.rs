@@ -1,7 +1,7 @@
 //! Programs that are wrong on purpose, and the scripts that must be found for them.
 
-use plainly::gen::{random_run_input, Input, Rng};
-use plainly::{Report, Reports, Tool};
+use independent::gen::{random_run_input, Input, Rng};
+use independent::{Report, Reports, Tool};
 
 use crate::machine::{Both, Independent, Machine, Outcome};
 use crate::parts::{damaged, edges, odd, runs, setups, states, twelve};
@@ -104,7 +104,7 @@ fn a_lost_report_takes_four_inputs() {
 #[test]
 fn a_wrong_answer_deep_in_a_run_takes_seven_inputs() {
     let run = found(4, 16, |before, input, o| {
-        let named = |c: &&plainly::Carrier| plainly::gen::unpadded(&c.name) == input.name;
+        let named = |c: &&independent::Carrier| independent::gen::unpadded(&c.name) == input.name;
         let cancelled = before.carriers().iter().find(named).is_some_and(|c| c.cancelled == 1 && c.id == 3);
         if input.number == 19 && o.answer == 7 && cancelled && before.places > 0 {
             o.answer = 0;
@@ -223,7 +223,9 @@ fn unsound_states_are_against_document_01() {
     let why = against(spoils, |both, rng| states::compare(both, 5_000, rng).map(drop));
     assert_eq!(why, "a sound state is followed by a sound one");
     let why = against(
-        |before, input, o| o.answer = if plainly::sound(before) || input.number != 10 { o.answer } else { 4 },
+        |before, input, o| {
+            o.answer = if independent::sound(before) || input.number != 10 { o.answer } else { 4 }
+        },
         |both, rng| damaged::every_byte(both, 1, rng).map(drop),
     );
     assert_eq!(why, "a state that isn't sound is answered 1");

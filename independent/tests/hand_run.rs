@@ -1,6 +1,6 @@
 //! Document 01's run to check by hand, and the edges it lists.
 
-use plainly::{setup, sound, step, Plain, Report, Reports, Tool};
+use independent::{setup, sound, step, Plain, Report, Reports, Tool};
 
 fn tool(p: u32, b: u32) -> Tool {
     let mut t = Tool::NONE;

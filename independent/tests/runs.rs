@@ -3,8 +3,8 @@
 mod common;
 
 use common::{plain_reports, plainly_sound, ALLOWED};
-use plainly::gen::{describe, random_run_input, random_sound_tool, Input, Rng};
-use plainly::{setup, sound, step, step_known_sound, Plain, Report, Reports, Tool};
+use independent::gen::{describe, random_run_input, random_sound_tool, Input, Rng};
+use independent::{setup, sound, step, step_known_sound, Plain, Report, Reports, Tool};
 
 type Table = [[u64; 9]; 27];
 

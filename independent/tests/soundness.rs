@@ -3,8 +3,8 @@
 mod common;
 
 use common::plainly_sound;
-use plainly::gen::{describe, pool_name, random_sound_tool, Rng, POOL};
-use plainly::{setup, sound, step, Carrier, Plain, Reports, Tool};
+use independent::gen::{describe, pool_name, random_sound_tool, Rng, POOL};
+use independent::{setup, sound, step, Carrier, Plain, Reports, Tool};
 
 fn compare(t: &Tool) -> bool {
     let is = sound(t);

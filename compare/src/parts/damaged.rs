@@ -1,7 +1,7 @@
 //! Damaged states: each is sound to both programs or to neither, and one that isn't is answered 1 with nothing changed.
 
-use plainly::gen::{random_run_input, random_sound_tool, Input, Rng};
-use plainly::{Plain, Tool};
+use independent::gen::{random_run_input, random_sound_tool, Input, Rng};
+use independent::{Plain, Tool};
 
 use crate::machine::Both;
 use crate::play::{from_state, Finding, Tally};

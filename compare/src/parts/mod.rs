@@ -8,7 +8,7 @@ pub mod setups;
 pub mod states;
 pub mod twelve;
 
-use plainly::gen::Input;
+use independent::gen::Input;
 
 /// Numbers that are near a limit, or that one is tempted to cut short.
 pub const ODD: [u32; 12] = [0, 5, 17, 26, 27, 255, 256, 257, 1 << 16, 1 << 31, (1 << 31) - 1, u32::MAX];

@@ -1,7 +1,7 @@
 //! Odd numbers for number, port and value, names of up to 300 bytes of every value,
 //! and codes of every length and value.
 
-use plainly::gen::{random_run_input, Input, Rng};
+use independent::gen::{random_run_input, Input, Rng};
 
 use super::{at, input, named, LOST, ODD};
 use crate::machine::Both;

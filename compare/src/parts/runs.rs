@@ -1,6 +1,6 @@
 //! Long random runs for every P and B.
 
-use plainly::gen::{random_run_input, Rng};
+use independent::gen::{random_run_input, Rng};
 
 use crate::machine::Both;
 use crate::play::{Finding, Player, Tally};

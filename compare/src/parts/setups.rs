@@ -1,7 +1,7 @@
 //! Set-ups of every P and B in and out of range, and of odd numbers.
 
-use plainly::gen::{random_run_input, Rng};
-use plainly::Plain;
+use independent::gen::{random_run_input, Rng};
+use independent::Plain;
 
 use super::{named, LOST, ODD};
 use crate::machine::Both;

@@ -1,7 +1,7 @@
 //! Single inputs from random sound states, odd ones among them that no run reaches.
 
-use plainly::gen::{random_run_input, random_sound_tool, Input, Rng};
-use plainly::Tool;
+use independent::gen::{random_run_input, random_sound_tool, Input, Rng};
+use independent::Tool;
 
 use crate::machine::Both;
 use crate::play::{from_state, Finding, Tally};

@@ -1,6 +1,6 @@
 //! Document 01's run to check by hand: P = 2, B = 0.
 
-use plainly::gen::Input;
+use independent::gen::Input;
 
 use super::{at, input, named};
 use crate::machine::Both;

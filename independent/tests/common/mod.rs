@@ -1,7 +1,7 @@
 //! Document 01's words in the plainest form, to compare the library with.
 #![allow(dead_code)]
 
-use plainly::{Carrier, Plain, Port, Report, Reports, Tool};
+use independent::{Carrier, Plain, Port, Report, Reports, Tool};
 
 /// Soundness, clause by clause.
 pub fn plainly_sound(t: &Tool) -> bool {

@@ -4,8 +4,8 @@
 mod equipment;
 mod host;
 
-use plainly::gen::padded;
-use plainly::{setup, sound, step, Carrier, Report, Reports, Tool};
+use independent::gen::padded;
+use independent::{setup, sound, step, Carrier, Report, Reports, Tool};
 
 /// A tool made by hand; ties are filled in from the carriers.
 fn tool(p: u32, b: u32, make: impl FnOnce(&mut Tool)) -> Tool {
