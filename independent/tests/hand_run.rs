@@ -1,5 +1,6 @@
 //! Document 01's run to check by hand, and the edges it lists.
 
+use independent::gen::padded;
 use independent::{setup, sound, step, Plain, Report, Reports, Tool};
 
 fn tool(p: u32, b: u32) -> Tool {
@@ -7,12 +8,6 @@ fn tool(p: u32, b: u32) -> Tool {
     assert_eq!(setup(p, b, &mut t), 0);
     assert!(sound(&t));
     t
-}
-
-fn name16(name: &str) -> [u8; 16] {
-    let mut padded = [0; 16];
-    padded[..name.len()].copy_from_slice(name.as_bytes());
-    padded
 }
 
 /// "model subject old>new; ..." as the document writes it.
@@ -26,7 +21,7 @@ fn parse(reports: &str) -> Reports {
         out.items[out.count as usize] = Report {
             model,
             port: if model <= 4 { subject.parse().unwrap() } else { 0 },
-            name: if model <= 4 { [0; 16] } else { name16(subject) },
+            name: if model <= 4 { [0; 16] } else { padded(subject.as_bytes()) },
             old: old.parse().unwrap(),
             new: new.parse().unwrap(),
         };
@@ -198,7 +193,7 @@ fn sixteen_expected() {
     assert_eq!(answer(&mut t, 3, 0, 0, "C17"), 0);
     let names: Vec<_> = t.carriers().iter().map(|c| c.name).collect();
     let kept = (0..16).filter(|k| *k != 3).chain([17]);
-    assert_eq!(names, kept.map(|k| name16(&format!("C{k}"))).collect::<Vec<_>>());
+    assert_eq!(names, kept.map(|k| padded(format!("C{k}").as_bytes())).collect::<Vec<_>>());
 }
 
 #[test]
