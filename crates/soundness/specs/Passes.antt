@@ -1,5 +1,5 @@
 -- What each pass over a tool's bytes looks at.
-use Prim.Native.Nat.{ℕ, zero, suc, _+_, _-_, _*_, _/_, _%_, _^_}
+use Prim.Native.Nat.{ℕ, zero, suc, _+_, _-_, _*_, _%_, _^_}
 use mathlib.Core.Bool.{Bool, not, cond, _&&_, _||_}
 use mathlib.Core.List.{List}
 use lib.Dec.{eqb, leb}
@@ -71,11 +71,8 @@ abbrev pub word : List ℕ → ℕ → ℕ
 word m o = number 8 (λ i. byteAt m (o + i))
 
 -- the mark that a name leaves: where names are the same the marks are
-abbrev pub mixed : ℕ → ℕ
-mixed x = (x % 4294967296 * 506952113 + x / 4294967296 * 625341585) / 17179869184 % 1024
-
 unfoldable pub mark : List ℕ → ℕ → ℕ
-mark m o = mixed ((word m o + word m (o + 8)) % 2 ^ 64)
+mark m o = (word m o + word m (o + 8) % 907 * 36) % 2 ^ 64 % 907
 
 abbrev pub markKey : List ℕ → ℕ → ℕ
 markKey m k = mark m (carrierStart k)

@@ -21,15 +21,14 @@ fn word(m: &[u8; 1891], o: usize) -> u64
     broad(m[o]) + 256 * low
 }
 
-// The mark of the name at o.
+// The mark of the name at o: another one for a name that differs in one byte, or in two by less than 14 each.
 fn mark(m: &[u8; 1891], o: usize) -> usize
     requires { ⌜ o + 16 ≤ 1891 ⌝ }
     ensures { λ r. ⌜ r ≡ mark (now (m .entry)) o ⌝ }
     ensures { λ r. ⌜ r < 1024 ⌝ }
 {
-    let x = wrapping_add_u64(word(m, o), word(m, o + 8));
-    let h = (x % 4294967296 * 506952113 + x / 4294967296 * 625341585) / 17179869184 % 1024;
-    h as usize
+    let x = wrapping_add_u64(word(m, o), word(m, o + 8) % 907 * 36);
+    (x % 907) as usize
 }
 
 // The record at position k has another name than each of the first n.
