@@ -19,9 +19,10 @@ use Rattle.rules.specs.Sound.{portInRange, carrierInRange, inRange, otherName, 
 use Rattle.rules.proofs.Names.{name-is, name-same}
 use Rattle.image.specs.Image.{table}
 use Rattle.image.proofs.Table.{length-table, getD-table}
-use Rattle.soundness.specs.Passes.{portOn, recordOn, namedBy, fieldsFit, seatFits, otherPort, latest, portKey, tieFits, portFits}
-use Rattle.soundness.proofs.Turns.{every-on, every-of, two-on, two-of}
-use Rattle.soundness.proofs.Latest.{latest-low, later-others, latest-has}
+use Rattle.passes.specs.Passes.{portOn, recordOn, namedBy, fieldsFit, seatFits, otherPort, latest, portKey, tieFits}
+use Rattle.soundness.specs.Whole.{portFits}
+use Rattle.passes.proofs.Turns.{every-on, every-of, two-on, two-of}
+use Rattle.passes.proofs.Latest.{latest-low, later-others, latest-has}
 use Rattle.soundness.proofs.Unused.{rest-on}
 use Rattle.soundness.proofs.Judged.{in-range, seat-places, range-named, range-fields, range-port, range-seat, open-untied, port-fits, fits-range, fits-agrees, tie-none, tie-some, stateOn, port-on, port-off, held-by}
 

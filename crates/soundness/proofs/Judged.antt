@@ -22,9 +22,10 @@ use Rattle.rules.specs.Sound.{portInRange, spotInRange, statusInRange, carrierI
 use Rattle.image.specs.Image.{table}
 use Rattle.image.proofs.Table.{length-table, getD-table}
 use Rattle.image.proofs.Laid.{split}
-use Rattle.soundness.specs.Passes.{portOn, recordOn, namedBy, fieldsFit, seatFits, otherPort, latest, portKey, tieFits, portFits}
-use Rattle.soundness.proofs.Turns.{two-on}
-use Rattle.soundness.proofs.Latest.{latest-low, later-others, latest-has}
+use Rattle.passes.specs.Passes.{portOn, recordOn, namedBy, fieldsFit, seatFits, otherPort, latest, portKey, tieFits}
+use Rattle.soundness.specs.Whole.{portFits}
+use Rattle.passes.proofs.Turns.{two-on}
+use Rattle.passes.proofs.Latest.{latest-low, later-others, latest-has}
 
 -- one record
 module _ (P B : ℕ) (c : Carrier) where

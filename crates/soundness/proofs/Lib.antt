@@ -1,10 +1,4 @@
-pub mod Bounds
 pub mod Clauses
-pub mod Gathered
 pub mod Judged
-pub mod Latest
-pub mod Marks
-pub mod Seated
-pub mod Turns
 pub mod Unused
 pub mod Verdict

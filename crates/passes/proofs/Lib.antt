@@ -1,0 +1,6 @@
+pub mod Bounds
+pub mod Gathered
+pub mod Latest
+pub mod Marks
+pub mod Seated
+pub mod Turns

@@ -1,0 +1,70 @@
+// Names differ. Each leaves a mark, and only where that is taken is a name compared with those before it.
+ghost use mathlib.Core.Path.{_≡_};
+ghost use Prim.Native.Nat.{ℕ, _≤_, _<_, _+_};
+ghost use Rattle.lists.specs.Lists.{every, everyTwo};
+ghost use Rattle.rules.specs.Sound.{otherName};
+ghost use Rattle.image.specs.Image.{table, byteAt};
+ghost use Rattle.passes.specs.Passes.{recordOn, word, mark};
+use crate::bytes::broad;
+use records::choose::wide;
+use std::num::wrapping_add_u64;
+
+// Eight bytes as one number.
+fn word(m: &[u8; 1891], o: usize) -> u64
+    requires { ⌜ o + 8 ≤ 1891 ⌝ }
+    ensures { λ r. ⌜ r ≡ word (now (m .entry)) o ⌝ }
+    ensures { λ _. ⌜ ((i : ℕ) → i < 8 → byteAt (now (m .entry)) (o + i) < 256) ⌝ }
+{
+    let high = broad(m[o + 4])
+        + 256 * (broad(m[o + 5]) + 256 * (broad(m[o + 6]) + 256 * broad(m[o + 7])));
+    let low = broad(m[o + 1]) + 256 * (broad(m[o + 2]) + 256 * (broad(m[o + 3]) + 256 * high));
+    broad(m[o]) + 256 * low
+}
+
+// The mark of the name at o: another one for a name that differs in one byte, or in two by less than 14 each.
+fn mark(m: &[u8; 1891], o: usize) -> usize
+    requires { ⌜ o + 16 ≤ 1891 ⌝ }
+    ensures { λ r. ⌜ r ≡ mark (now (m .entry)) o ⌝ }
+    ensures { λ r. ⌜ r < 1024 ⌝ }
+{
+    let x = wrapping_add_u64(word(m, o), word(m, o + 8) % 907 * 36);
+    (x % 907) as usize
+}
+
+// The record at position k has another name than each of the first n.
+fn alone(m: &[u8; 1891], k: usize, n: usize) -> bool
+    requires { ⌜ k < 36 ⌝ }
+    requires { ⌜ n ≤ 36 ⌝ }
+    ensures { λ r. ⌜ r ≡ every (λ c. otherName c (recordOn (now (m .entry)) k)) (table n (recordOn (now (m .entry)))) ⌝ }
+{
+    let a = word(m, 91 + 50 * k);
+    let b = word(m, 91 + 50 * k + 8);
+    let mut ok = true;
+    let mut j = 0;
+    while ok & (j < n) {
+        let same = (word(m, 91 + 50 * j) == a) & (word(m, 91 + 50 * j + 8) == b);
+        ok = !same & ok;
+        j += 1;
+    }
+    ok
+}
+
+// Where a mark is new, no earlier name is the same; else those up to the latest that left it are compared.
+pub fn differ(m: &[u8; 1891], n: usize) -> bool
+    requires { ⌜ n ≤ 36 ⌝ }
+    ensures { λ r. ⌜ r ≡ everyTwo otherName (table n (recordOn (now (m .entry)))) ⌝ }
+{
+    let mut marks = [0u8; 1024];
+    let mut ok = true;
+    let mut k = 0;
+    while k < n {
+        let h = mark(m, 91 + 50 * k);
+        let before = wide(marks[h]);
+        if 0 < before {
+            ok = alone(m, k, before) & ok;
+        }
+        k += 1;
+        marks[h] = k as u8;
+    }
+    ok
+}
