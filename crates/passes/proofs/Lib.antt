@@ -2,5 +2,4 @@ pub mod Bounds
 pub mod Gathered
 pub mod Latest
 pub mod Marks
-pub mod Seated
 pub mod Turns

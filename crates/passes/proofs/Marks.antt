@@ -1,5 +1,5 @@
 -- Names that are the same leave the same mark.
-use Prim.Native.Nat.{ℕ, zero, suc, _+_, _-_, _<_, suc-le-suc}
+use Prim.Native.Nat.{ℕ, zero, suc, _+_, _-_, _*_, _<_, suc-le-suc}
 use native.Mathlib.Nat.{le-of-suc-le-suc}
 use native.Mathlib.Omega.{arith}
 use mathlib.Core.Path.{_≡_, refl, ap, sym, _∙_}
@@ -17,7 +17,7 @@ use Rattle.rules.specs.Sound.{otherName}
 use Rattle.image.specs.Image.{table, byteAt, bytesFrom, nameFrom, carrierStart}
 use Rattle.rules.proofs.Names.{name-same}
 use Rattle.image.proofs.Table.{getD-table, table-same}
-use Rattle.passes.specs.Passes.{recordOn, number, word, mark, markKey, latest}
+use Rattle.passes.specs.Passes.{recordOn, number, half, word, mark, markKey, latest}
 use Rattle.passes.proofs.Turns.{every-on, every-of}
 use Rattle.passes.proofs.Latest.{latest-low, later-others}
 
@@ -37,21 +37,38 @@ number-is (suc n) f g a b e (suc i) h =
     let y = b 0 (omega arith) in
     number-is n (λ i. f (suc i)) (λ i. g (suc i)) (λ i c. a (suc i) (suc-le-suc c)) (λ i c. b (suc i) (suc-le-suc c)) (omega arith) i (le-of-suc-le-suc h)
 
--- what holds of each of eight
-pub eight : (Q : ℕ → Type 0) → Q 0 → Q 1 → Q 2 → Q 3 → Q 4 → Q 5 → Q 6 → Q 7 → (i : ℕ) → i < 8 → Q i
-eight Q a b c d e f g h zero l = a
-eight Q a b c d e f g h (suc zero) l = b
-eight Q a b c d e f g h (suc (suc zero)) l = c
-eight Q a b c d e f g h (suc (suc (suc zero))) l = d
-eight Q a b c d e f g h (suc (suc (suc (suc zero)))) l = e
-eight Q a b c d e f g h (suc (suc (suc (suc (suc zero))))) l = f
-eight Q a b c d e f g h (suc (suc (suc (suc (suc (suc zero)))))) l = g
-eight Q a b c d e f g h (suc (suc (suc (suc (suc (suc (suc zero))))))) l = h
-eight Q a b c d e f g h (suc (suc (suc (suc (suc (suc (suc (suc i)))))))) l = absurd (omega arith)
+-- what holds of each of four
+pub four : (Q : ℕ → Type 0) → Q 0 → Q 1 → Q 2 → Q 3 → (i : ℕ) → i < 4 → Q i
+four Q a b c d zero l = a
+four Q a b c d (suc zero) l = b
+four Q a b c d (suc (suc zero)) l = c
+four Q a b c d (suc (suc (suc zero))) l = d
+four Q a b c d (suc (suc (suc (suc i)))) l = absurd (omega arith)
 
 module _ (m : List ℕ) where
   abbrev pub Small : ℕ → Type 0
   Small o = (i : ℕ) → i < 8 → byteAt m (o + i) < 256
+
+  -- a word is two halves
+  further : (o i : ℕ) → byteAt m (o + 4 + i) ≡ byteAt m (o + (4 + i))
+  further o i = ap (byteAt m) go
+    where
+      go : o + 4 + i ≡ o + (4 + i)
+      go = omega arith
+
+  pub halves : (o : ℕ) → half m o + 4294967296 * half m (o + 4) ≡ word m o
+  unfolding number
+  halves o = omega (arith, further o 0, further o 1, further o 2, further o 3)
+
+  pub small-halves : (o : ℕ) → ((i : ℕ) → i < 4 → byteAt m (o + i) < 256) → ((i : ℕ) → i < 4 → byteAt m (o + 4 + i) < 256) → Small o
+  small-halves o a b i h = go (ltb i 4) refl
+    where
+      go : (c : Bool) → ltb i 4 ≡ c → byteAt m (o + i) < 256
+      go true q = a i (ltb-true i 4 q)
+      go false q =
+          let l = ltb-false i 4 q in
+          let e : o + 4 + (i - 4) ≡ o + i = omega arith in
+          rw e at (b (i - 4) (omega arith))
 
   words-same : (o p : ℕ) → sameName (nameFrom m o) (nameFrom m p) ≡ true → (word m o ≡ word m p) × (word m (o + 8) ≡ word m (p + 8))
   unfolding sameName

@@ -25,6 +25,19 @@ cross true false false d = refl
 cross false b c d = refl
 
 module _ {A : Type 0} where
+  -- none yet; who cites these need not unfold `table`, which may be a long one
+  pub every-none : (F : A → Bool) (f : ℕ → A) → true ≡ every F (table 0 f)
+  unfolding every table
+  every-none F f = refl
+
+  pub two-none : (F : A → A → Bool) (f : ℕ → A) → true ≡ everyTwo F (table 0 f)
+  unfolding everyTwo table
+  two-none F f = refl
+
+  pub many-none : (F : A → Bool) (f : ℕ → A) → 0 ≡ howMany F (table 0 f)
+  unfolding howMany table
+  many-none F f = refl
+
   pub every-suc : (F : A → Bool) (f : ℕ → A) (k : ℕ) → every F (table (suc k) f) ≡ (F (f k) && every F (table k f))
   unfolding every table
   every-suc F f zero = refl

@@ -4,10 +4,20 @@ ghost use Prim.Native.Nat.{ℕ, _≤_, _<_, _+_};
 ghost use Rattle.lists.specs.Lists.{every, everyTwo};
 ghost use Rattle.rules.specs.Sound.{otherName};
 ghost use Rattle.image.specs.Image.{table, byteAt};
-ghost use Rattle.passes.specs.Passes.{recordOn, word, mark};
+ghost use Rattle.passes.specs.Passes.{recordOn, half, word, mark};
 use crate::bytes::broad;
 use records::choose::wide;
 use std::num::wrapping_add_u64;
+
+// Four bytes as one number.
+fn half(m: &[u8; 1891], o: usize) -> u64
+    requires { ⌜ o + 4 ≤ 1891 ⌝ }
+    ensures { λ r. ⌜ r ≡ half (now (m .entry)) o ⌝ }
+    ensures { λ r. ⌜ r < 4294967296 ⌝ }
+    ensures { λ _. ⌜ ((i : ℕ) → i < 4 → byteAt (now (m .entry)) (o + i) < 256) ⌝ }
+{
+    broad(m[o]) + 256 * (broad(m[o + 1]) + 256 * (broad(m[o + 2]) + 256 * broad(m[o + 3])))
+}
 
 // Eight bytes as one number.
 fn word(m: &[u8; 1891], o: usize) -> u64
@@ -15,10 +25,7 @@ fn word(m: &[u8; 1891], o: usize) -> u64
     ensures { λ r. ⌜ r ≡ word (now (m .entry)) o ⌝ }
     ensures { λ _. ⌜ ((i : ℕ) → i < 8 → byteAt (now (m .entry)) (o + i) < 256) ⌝ }
 {
-    let high = broad(m[o + 4])
-        + 256 * (broad(m[o + 5]) + 256 * (broad(m[o + 6]) + 256 * broad(m[o + 7])));
-    let low = broad(m[o + 1]) + 256 * (broad(m[o + 2]) + 256 * (broad(m[o + 3]) + 256 * high));
-    broad(m[o]) + 256 * low
+    half(m, o) + 4294967296 * half(m, o + 4)
 }
 
 // The mark of the name at o: another one for a name that differs in one byte, or in two by less than 14 each.

@@ -19,8 +19,8 @@ use Rattle.rules.specs.Sound.{portInRange, carrierInRange, inRange, otherName, 
 use Rattle.rules.proofs.Names.{name-is, name-same}
 use Rattle.image.specs.Image.{table}
 use Rattle.image.proofs.Table.{length-table, getD-table}
-use Rattle.passes.specs.Passes.{portOn, recordOn, namedBy, fieldsFit, seatFits, otherPort, latest, portKey, tieFits}
-use Rattle.soundness.specs.Whole.{portFits}
+use Rattle.passes.specs.Passes.{recordOn, namedBy, fieldsFit, latest}
+use Rattle.soundness.specs.Seats.{portOn, seatFits, otherPort, portKey, tieFits, portFits}
 use Rattle.passes.proofs.Turns.{every-on, every-of, two-on, two-of}
 use Rattle.passes.proofs.Latest.{latest-low, later-others, latest-has}
 use Rattle.soundness.proofs.Unused.{rest-on}

@@ -22,8 +22,8 @@ use Rattle.rules.specs.Sound.{portInRange, spotInRange, statusInRange, carrierI
 use Rattle.image.specs.Image.{table}
 use Rattle.image.proofs.Table.{length-table, getD-table}
 use Rattle.image.proofs.Laid.{split}
-use Rattle.passes.specs.Passes.{portOn, recordOn, namedBy, fieldsFit, seatFits, otherPort, latest, portKey, tieFits}
-use Rattle.soundness.specs.Whole.{portFits}
+use Rattle.passes.specs.Passes.{recordOn, namedBy, fieldsFit, latest}
+use Rattle.soundness.specs.Seats.{portOn, seatFits, otherPort, portKey, tieFits, portFits}
 use Rattle.passes.proofs.Turns.{two-on}
 use Rattle.passes.proofs.Latest.{latest-low, later-others, latest-has}
 

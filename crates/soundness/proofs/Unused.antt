@@ -17,7 +17,8 @@ use Rattle.rules.proofs.Holding.{zero-port, zero-carrier}
 use Rattle.image.specs.Image.{table, byteAt, bytesFrom, portFrom, carrierFrom, portBytes, carrierBytes, portStart, carrierStart}
 use Rattle.image.proofs.Table.{table-same, getD-table, length-table}
 use Rattle.image.proofs.Laid.{port-same, carrier-same}
-use Rattle.passes.specs.Passes.{isZero, portOn, recordOn}
+use Rattle.passes.specs.Passes.{isZero, recordOn}
+use Rattle.soundness.specs.Seats.{portOn}
 use Rattle.passes.proofs.Turns.{every-on, every-of, table-none}
 
 -- what holds of a table's rest holds at each position of it

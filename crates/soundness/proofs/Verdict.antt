@@ -13,8 +13,8 @@ use Rattle.rules.specs.State.{State}
 use Rattle.rules.specs.Sound.{inRange, otherName, sound, zeroPort, zeroCarrier, unusedZero, soundTool}
 use Rattle.image.specs.Image.{table, byteAt, bytesFrom, toolFrom}
 use Rattle.image.proofs.Table.{length-table}
-use Rattle.passes.specs.Passes.{isZero, portOn, recordOn, namedBy, fieldsFit, latest, portKey, tieFits, seatsFit}
-use Rattle.soundness.specs.Whole.{portFits}
+use Rattle.passes.specs.Passes.{isZero, recordOn, namedBy, fieldsFit, latest}
+use Rattle.soundness.specs.Seats.{portOn, portKey, tieFits, seatsFit, portFits}
 use Rattle.passes.proofs.Turns.{take-table}
 use Rattle.soundness.proofs.Unused.{unused-ports, unused-carriers}
 use Rattle.soundness.proofs.Judged.{stateOn}

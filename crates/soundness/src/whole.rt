@@ -4,8 +4,8 @@ ghost use Prim.Native.Nat.{_≤_, _<_};
 ghost use Rattle.lists.specs.Lists.{every};
 ghost use Rattle.rules.specs.Sound.{soundTool};
 ghost use Rattle.image.specs.Image.{table, toolFrom};
-ghost use Rattle.passes.specs.Passes.{portOn};
-ghost use Rattle.soundness.specs.Whole.{portFits};
+ghost use Rattle.soundness.specs.Seats.{portOn, portFits};
+use crate::seats::seats;
 use image::read::count;
 use image::read::places;
 use image::read::used;
@@ -13,7 +13,6 @@ use passes::bytes::zeros;
 use passes::lanes::fields;
 use passes::lanes::named;
 use passes::names::differ;
-use passes::seats::seats;
 use records::choose::wide;
 
 // The port at position k, but for its tie: that is looked at with the carriers.

@@ -1,6 +1,6 @@
 use native.Mathlib.Omega.{arith}
 use Prim.Native.Nat.{_≤_, _-_}
-use mathlib.Core.Path.{_≡_, refl, ap, ap₂, sym, _∙_}
+use mathlib.Core.Path.{_≡_, ap, ap₂, sym, _∙_}
 use mathlib.Core.Bool.{Bool, _&&_}
 use mathlib.Core.Logic.{⊎-elim}
 use lib.ListN.{getD}
@@ -10,7 +10,7 @@ use Rattle.rules.specs.Sound.{otherName}
 use Rattle.image.specs.Image.{table}
 use Rattle.image.proofs.Table.{getD-table}
 use Rattle.passes.specs.Passes.{recordOn, markKey, latest}
-use Rattle.passes.proofs.Turns.{two-next}
+use Rattle.passes.proofs.Turns.{every-none, two-none, two-next}
 use Rattle.passes.proofs.Latest.{marked, marked-none, marked-more, latest-low}
 use Rattle.passes.proofs.Marks.{marked-enough}
 use Rattle.passes.proofs.names.differ.Statement.{statement}
@@ -25,8 +25,9 @@ abbrev μ-loop : tie.MeasureT-loop
 μ-loop m n marks₀ ok₀ k₀ marks ok k = n - k
 
 loop-holds : tie.Need-loop-holds Inv-loop μ-loop
-unfolding everyTwo table
-loop-holds c = (omega arith, omega arith, marked-none (markKey (c .args .m .now)) 1024, refl)
+loop-holds c =
+    let m = c .args .m .now in
+    (omega arith, omega arith, marked-none (markKey m) 1024, two-none otherName (recordOn m))
 
 -- where the latest with this mark stands
 before-is : (c : tie.After-wide Inv-loop μ-loop) →
@@ -49,7 +50,6 @@ alone-requires c κs =
     (omega arith, omega arith)
 
 loop-again : tie.Need-loop-again Inv-loop μ-loop
-unfolding every table
 loop-again c =
     let b = c .before .before .before .before in
     let m = b .before .args .m .now in
@@ -62,7 +62,7 @@ loop-again c =
       rw (c .before .before .mark .ensures .0, b .loop .inv .2) (marked-more (markKey m) 1024 k),
       ⊎-elim (λ w. w .2 ∙ ap₂ _&&_ (w .1 .ensures ∙ e) (b .loop .inv .3) ∙ sym t)
           (λ w. let z : 0 ≡ c .before .wide .result = omega (arith, w .0 .left) in
-          w .1 ∙ ap₂ _&&_ (ap (λ j. every F (table j (recordOn m))) z ∙ e) (b .loop .inv .3) ∙ sym t)
+          w .1 ∙ ap₂ _&&_ (every-none F (recordOn m) ∙ ap (λ j. every F (table j (recordOn m))) z ∙ e) (b .loop .inv .3) ∙ sym t)
           (c .if1 .came),
     )
 

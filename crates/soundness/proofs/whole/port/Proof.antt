@@ -1,7 +1,7 @@
 use borrow.Author.Needs.{needs}
 use mathlib.Core.Path.{refl}
 use Rattle.rules.specs.Sound.{portAgrees}
-use Rattle.soundness.specs.Whole.{portFits}
+use Rattle.soundness.specs.Seats.{portFits}
 use Rattle.soundness.proofs.whole.port.Statement.{statement}
 use Rattle.soundness.proofs.whole.port.Tie as tie
 

@@ -3,8 +3,7 @@ use Prim.Native.Nat.{_≤_, _-_}
 use mathlib.Core.Path.{_≡_, refl}
 use Rattle.lists.specs.Lists.{every}
 use Rattle.image.specs.Image.{table}
-use Rattle.passes.specs.Passes.{portOn}
-use Rattle.soundness.specs.Whole.{portFits}
+use Rattle.soundness.specs.Seats.{portOn, portFits}
 use Rattle.passes.proofs.Turns.{every-next}
 use Rattle.soundness.proofs.whole.ports.Statement.{statement}
 use Rattle.soundness.proofs.whole.ports.Tie as tie

@@ -1,11 +1,12 @@
 // Where the carriers are: places, buffer places and ties.
 ghost use mathlib.Core.Path.{_≡_};
 ghost use Prim.Native.Nat.{_≤_, _<_};
-ghost use Rattle.passes.specs.Passes.{recordOn, portOn, seatFits, tieFits, seatsFit};
+ghost use Rattle.passes.specs.Passes.{recordOn};
+ghost use Rattle.soundness.specs.Seats.{portOn, seatFits, tieFits, seatsFit};
 ghost use Rattle.rules.specs.Sound.{openAgrees};
-use crate::bytes::index;
-use crate::bytes::same;
-use crate::bytes::zeros;
+use passes::bytes::index;
+use passes::bytes::same;
+use passes::bytes::zeros;
 use records::choose::one_if;
 use records::choose::wide;
 

@@ -1,8 +1,8 @@
 use borrow.Author.Needs.{needs}
 use Rattle.passes.specs.Passes.{recordOn}
-use Rattle.passes.proofs.Seated.{seat-tests}
-use Rattle.passes.proofs.seats.seat.Statement.{statement}
-use Rattle.passes.proofs.seats.seat.Tie as tie
+use Rattle.soundness.proofs.Seated.{seat-tests}
+use Rattle.soundness.proofs.seats.seat.Statement.{statement}
+use Rattle.soundness.proofs.seats.seat.Tie as tie
 
 returns : tie.Need-returns
 returns c =

@@ -8,12 +8,13 @@ use Rattle.records.specs.Carriers.{expected}
 use Rattle.rules.specs.Sound.{otherSpot}
 use Rattle.image.specs.Image.{table}
 use Rattle.image.proofs.Table.{getD-table}
-use Rattle.passes.specs.Passes.{recordOn, seatFits, otherPort, latest, portKey, spotKey, seatsFit}
-use Rattle.passes.proofs.Turns.{every-next, many-next}
+use Rattle.passes.specs.Passes.{recordOn, latest}
+use Rattle.soundness.specs.Seats.{seatFits, otherPort, portKey, spotKey, seatsFit}
+use Rattle.passes.proofs.Turns.{every-none, two-none, many-none, every-next, many-next}
 use Rattle.passes.proofs.Latest.{marked, marked-none, marked-more, latest-low}
-use Rattle.passes.proofs.Seated.{spot-more, port-more}
-use Rattle.passes.proofs.seats.seats.Statement.{statement}
-use Rattle.passes.proofs.seats.seats.Tie as tie
+use Rattle.soundness.proofs.Seated.{spot-more, port-more}
+use Rattle.soundness.proofs.seats.seats.Statement.{statement}
+use Rattle.soundness.proofs.seats.seats.Tie as tie
 
 -- the records that are passed fit and share nothing, and each has left its position at its spot and at its port
 abbrev Inv-loop : tie.InvT-loop
@@ -28,9 +29,19 @@ abbrev μ-loop : tie.MeasureT-loop
 μ-loop m used places n spots₀ ports₀ fit₀ apart₀ alone₀ expected₀ k₀ spots ports fit apart alone waiting k = n - k
 
 loop-holds : tie.Need-loop-holds Inv-loop μ-loop
-unfolding every everyTwo howMany table
 loop-holds c =
-    (omega arith, omega arith, marked-none (spotKey (c .args .m .now)) 256, marked-none (portKey (c .args .m .now)) 256, refl, refl, refl, omega arith, refl)
+    let a = c .args in
+    let m = a .m .now in (
+      omega arith,
+      omega arith,
+      marked-none (spotKey m) 256,
+      marked-none (portKey m) 256,
+      every-none (seatFits (a .used) (a .places)) (recordOn m),
+      two-none otherSpot (recordOn m),
+      two-none otherPort (recordOn m),
+      omega arith,
+      many-none expected (recordOn m),
+    )
 
 loop-again : tie.Need-loop-again Inv-loop μ-loop
 loop-again c =

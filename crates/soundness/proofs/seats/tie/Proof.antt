@@ -1,8 +1,8 @@
 use borrow.Author.Needs.{needs}
 use borrow.Author.Tests.{eq-eqb, ne-eqb}
-use Rattle.passes.specs.Passes.{tieFits}
-use Rattle.passes.proofs.seats.tie.Statement.{statement}
-use Rattle.passes.proofs.seats.tie.Tie as tie
+use Rattle.soundness.specs.Seats.{tieFits}
+use Rattle.soundness.proofs.seats.tie.Statement.{statement}
+use Rattle.soundness.proofs.seats.tie.Tie as tie
 
 pub tie-spec : {M : Type 1} → statement M
 unfolding tieFits

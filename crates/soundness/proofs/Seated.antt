@@ -12,9 +12,10 @@ use Rattle.records.specs.declared.carrier.Carrier.{Carrier}
 use Rattle.rules.specs.Sound.{spotInRange, placeAgrees, otherSpot}
 use Rattle.image.specs.Image.{table}
 use Rattle.image.proofs.Table.{getD-table}
-use Rattle.passes.specs.Passes.{recordOn, seatFits, otherPort, latest, portKey, spotKey}
+use Rattle.passes.specs.Passes.{recordOn, latest}
+use Rattle.soundness.specs.Seats.{seatFits, otherPort, portKey, spotKey}
 use Rattle.passes.proofs.Turns.{two-next}
 use Rattle.passes.proofs.Latest.{marked, fresh}
 
 -- The code's test of a seat, which asks fewer questions of a sound record.
 abbrev pub seated : ℕ → ℕ → Carrier → Bool
