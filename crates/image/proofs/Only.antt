@@ -11,7 +11,8 @@ use borrow.Author.Tests.{ltb-true, ltb-false}
 use Rattle.records.specs.Ports.{noPort}
 use Rattle.records.specs.Carriers.{noCarrier}
 use Rattle.rules.specs.Reports.{noReport}
-use Rattle.image.specs.Image.{table, byteAt, bytesFrom, portFrom, carrierFrom, reportFrom, portBytes, carrierBytes, reportBytes, portStart, carrierStart, reportStart, toolFrom, reportsFrom}
+use Rattle.image.specs.Image.{table, byteAt, bytesFrom, portFrom, carrierFrom, reportFrom, portBytes, carrierBytes}
+use Rattle.image.specs.Image.{reportBytes, portStart, carrierStart, reportStart, toolFrom, reportsFrom}
 use Rattle.image.proofs.Table.{table-same, getD-table}
 use Rattle.image.proofs.Laid.{used-is, places-is, count-is, port-is, record-is}
 use Rattle.image.proofs.Reported.{reported-is, item-is}
@@ -40,11 +41,11 @@ module _ (m : List ℕ) (o : ℕ) where
   onward : (s n : ℕ) → table n (λ i. at (s + i)) ≡ bytesFrom m (o + s) n
   onward s n = table-same n (λ i. at (s + i)) (λ i. byteAt m (o + s + i)) (λ i b. let e : o + (s + i) ≡ o + s + i = omega arith in rw e)
 
-  port-spelt : table 22 at ≡ portBytes (portFrom m o)
+  pub port-spelt : table 22 at ≡ portBytes (portFrom m o)
   unfolding portBytes
   port-spelt = port-parts at ∙ rw (from-start, onward 3 16)
 
-  carrier-spelt : table 50 at ≡ carrierBytes (carrierFrom m o)
+  pub carrier-spelt : table 50 at ≡ carrierBytes (carrierFrom m o)
   unfolding carrierBytes
   carrier-spelt = carrier-parts at ∙ rw (onward 22 25)
 
@@ -65,22 +66,22 @@ module _ (s : ℕ) (none : s * 0 ≡ 0) (more : (n : ℕ) → s * suc n ≡ s + 
       go false e later = later (ltb-false i (o + s) e)
 
 module _ (a b : List ℕ) where
+  -- where the same is read, the same bytes stand
+  same-bytes : {A : Type 0} (from : List ℕ → ℕ → A) (bytes : A → List ℕ) (w o : ℕ) → ((m : List ℕ) → table w (at m o) ≡ bytes (from m o))
+      → from a o ≡ from b o → (f : ℕ) → f < w → byteAt a (o + f) ≡ byteAt b (o + f)
+  same-bytes from bytes w o spelt p f d =
+      sym (getD-table w (at a o) f 0 d) ∙ ap (λ l. getD l f 0) (spelt a ∙ ap bytes p ∙ sym (spelt b)) ∙ getD-table w (at b o) f 0 d
+
   module _ (full : length a ≡ 1891) (whole : length b ≡ 1891) (e : toolFrom a ≡ toolFrom b) where
     port-byte : (k f : ℕ) → k < 4 → f < 22 → byteAt a (portStart k + f) ≡ byteAt b (portStart k + f)
-    port-byte k f c d =
-        let p : portFrom a (portStart k) ≡ portFrom b (portStart k) =
-        sym (port-is a k noPort c) ∙ ap (λ t. getD (t .ports) k noPort) e ∙ port-is b k noPort c in
-        sym (getD-table 22 (at a (portStart k)) f 0 d)
-        ∙ ap (λ l. getD l f 0) (port-spelt a (portStart k) ∙ ap portBytes p ∙ sym (port-spelt b (portStart k)))
-        ∙ getD-table 22 (at b (portStart k)) f 0 d
+    port-byte k f c =
+        same-bytes portFrom portBytes 22 (portStart k) (λ m. port-spelt m (portStart k))
+        (sym (port-is a k noPort c) ∙ ap (λ t. getD (t .ports) k noPort) e ∙ port-is b k noPort c) f
 
     record-byte : (k f : ℕ) → k < 36 → f < 50 → byteAt a (carrierStart k + f) ≡ byteAt b (carrierStart k + f)
-    record-byte k f c d =
-        let p : carrierFrom a (carrierStart k) ≡ carrierFrom b (carrierStart k) =
-        sym (record-is a k noCarrier c) ∙ ap (λ t. getD (t .carriers) k noCarrier) e ∙ record-is b k noCarrier c in
-        sym (getD-table 50 (at a (carrierStart k)) f 0 d)
-        ∙ ap (λ l. getD l f 0) (carrier-spelt a (carrierStart k) ∙ ap carrierBytes p ∙ sym (carrier-spelt b (carrierStart k)))
-        ∙ getD-table 50 (at b (carrierStart k)) f 0 d
+    record-byte k f c =
+        same-bytes carrierFrom carrierBytes 50 (carrierStart k) (λ m. carrier-spelt m (carrierStart k))
+        (sym (record-is a k noCarrier c) ∙ ap (λ t. getD (t .carriers) k noCarrier) e ∙ record-is b k noCarrier c) f
 
     each-byte : (i : ℕ) → i < 1891 → byteAt a i ≡ byteAt b i
     each-byte zero h = sym (used-is a) ∙ ap (λ t. t .used) e ∙ used-is b
@@ -106,12 +107,9 @@ module _ (a b : List ℕ) where
 
   module _ (full : length a ≡ 141) (whole : length b ≡ 141) (e : reportsFrom a ≡ reportsFrom b) where
     report-byte : (k f : ℕ) → k < 7 → f < 20 → byteAt a (reportStart k + f) ≡ byteAt b (reportStart k + f)
-    report-byte k f c d =
-        let p : reportFrom a (reportStart k) ≡ reportFrom b (reportStart k) =
-        sym (item-is a k noReport c) ∙ ap (λ t. getD (t .items) k noReport) e ∙ item-is b k noReport c in
-        sym (getD-table 20 (at a (reportStart k)) f 0 d)
-        ∙ ap (λ l. getD l f 0) (report-spelt a (reportStart k) ∙ ap reportBytes p ∙ sym (report-spelt b (reportStart k)))
-        ∙ getD-table 20 (at b (reportStart k)) f 0 d
+    report-byte k f c =
+        same-bytes reportFrom reportBytes 20 (reportStart k) (λ m. report-spelt m (reportStart k))
+        (sym (item-is a k noReport c) ∙ ap (λ t. getD (t .items) k noReport) e ∙ item-is b k noReport c) f
 
     reported-byte : (i : ℕ) → i < 141 → byteAt a i ≡ byteAt b i
     reported-byte zero h = sym (reported-is a) ∙ ap (λ t. t .count) e ∙ reported-is b

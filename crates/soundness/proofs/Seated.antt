@@ -9,16 +9,16 @@ use lib.Dec.{eqb, leb}
 use borrow.Author.Tests.{eqb-true, eqb-false, eq-eqb, ne-eqb, leb-true, le-leb, lt-leb}
 use Rattle.lists.specs.Lists.{everyTwo}
 use Rattle.records.specs.declared.carrier.Carrier.{Carrier}
-use Rattle.rules.specs.Sound.{spotInRange, placeAgrees, otherSpot}
+use Rattle.rules.specs.Sound.{spotInRange, placeAgrees}
 use Rattle.image.specs.Image.{table}
 use Rattle.image.proofs.Table.{getD-table}
 use Rattle.passes.specs.Passes.{recordOn, latest}
-use Rattle.soundness.specs.Seats.{seatFits, otherPort, portKey, spotKey}
+use Rattle.soundness.specs.Seats.{seatFits}
 use Rattle.passes.proofs.Turns.{two-next}
 use Rattle.passes.proofs.Latest.{marked, fresh}
 
 -- The code's test of a seat, which asks fewer questions of a sound record.
-abbrev pub seated : ℕ → ℕ → Carrier → Bool
+abbrev seated : ℕ → ℕ → Carrier → Bool
 seated P B c =
     (((leb (c .place) 2
     && (((eqb (c .place) 2 && not (eqb (c .spot) 0)) || (not (eqb (c .place) 2) && eqb (c .spot) 0)) && leb (c .spot) B))
@@ -55,7 +55,8 @@ tie-tests : (p : ℕ) (spot port none : Bool)
 tie-tests p spot port none = go (leb p 2) refl (eqb p 0) refl (eqb p 2) refl
   where
     go : (l : Bool) → leb p 2 ≡ l → (e : Bool) → eqb p 0 ≡ e → (t : Bool) → eqb p 2 ≡ t
-        → (((l && spot) && port) && (e || ((t && none) || (not t && not none)))) ≡ (((l && spot) && port) && ((not (eqb p 1) || not none) && (not t || none)))
+        → (((l && spot) && port) && (e || ((t && none) || (not t && not none))))
+        ≡ (((l && spot) && port) && ((not (eqb p 1) || not none) && (not t || none)))
     go false a e b t c = refl
     go true a true b t c =
         let z = eqb-true p 0 b in
@@ -85,23 +86,20 @@ unfolding seatFits spotInRange placeAgrees
 seat-tests P B c =
     rw (spot-tests (c .place) (c .spot) B (eqb (c .place) 2) (eqb (c .spot) 0) (leb (c .spot) B) refl refl refl)
     (ap (λ t. t && (not (eqb (c .opened) 1) || not (eqb (c .place) 0)))
-    (tie-tests (c .place) ((eqb (c .place) 2 && (leb 1 (c .spot) && leb (c .spot) B)) || (not (eqb (c .place) 2) && eqb (c .spot) 0)) (leb (c .port) P) (eqb (c .port) 0)))
+    (tie-tests (c .place) ((eqb (c .place) 2 && (leb 1 (c .spot) && leb (c .spot) B)) || (not (eqb (c .place) 2) && eqb (c .spot) 0))
+    (leb (c .port) P) (eqb (c .port) 0)))
 
-module _ (m : List ℕ) (k : ℕ) where
-  pub spot-more : spotKey m k < 256 → everyTwo otherSpot (table (k + 1) (recordOn m))
-      ≡ ((eqb (spotKey m k) 0 || eqb (getD (marked (spotKey m) 256 k) (spotKey m k) 0) 0) && everyTwo otherSpot (table k (recordOn m)))
-  unfolding otherSpot
-  spot-more h =
-      two-next otherSpot (recordOn m) k
-      ∙ ap (λ b. b && everyTwo otherSpot (table k (recordOn m)))
-      (fresh (λ c. c .spot) (recordOn m) (spotKey m k) k
-      ∙ ap (λ j. eqb (spotKey m k) 0 || eqb j 0) (sym (getD-table 256 (λ v. latest (spotKey m) v k) (spotKey m k) 0 h)))
+-- one record more, by a key that only 0 may share
+module _ (g : Carrier → ℕ) (m : List ℕ) (k : ℕ) where
+  abbrev apart : Carrier → Carrier → Bool
+  apart a b = eqb (g a) 0 || not (eqb (g a) (g b))
 
-  pub port-more : portKey m k < 256 → everyTwo otherPort (table (k + 1) (recordOn m))
-      ≡ ((eqb (portKey m k) 0 || eqb (getD (marked (portKey m) 256 k) (portKey m k) 0) 0) && everyTwo otherPort (table k (recordOn m)))
-  unfolding otherPort
-  port-more h =
-      two-next otherPort (recordOn m) k
-      ∙ ap (λ b. b && everyTwo otherPort (table k (recordOn m)))
-      (fresh (λ c. c .port) (recordOn m) (portKey m k) k
-      ∙ ap (λ j. eqb (portKey m k) 0 || eqb j 0) (sym (getD-table 256 (λ v. latest (portKey m) v k) (portKey m k) 0 h)))
+  abbrev key : ℕ → ℕ
+  key j = g (recordOn m j)
+
+  pub key-more : key k < 256 → everyTwo apart (table (k + 1) (recordOn m))
+      ≡ ((eqb (key k) 0 || eqb (getD (marked key 256 k) (key k) 0) 0) && everyTwo apart (table k (recordOn m)))
+  key-more h =
+      two-next apart (recordOn m) k
+      ∙ ap (λ b. b && everyTwo apart (table k (recordOn m)))
+      (fresh g (recordOn m) (key k) k ∙ ap (λ j. eqb (key k) 0 || eqb j 0) (sym (getD-table 256 (λ v. latest key v k) (key k) 0 h)))

@@ -1,7 +1,7 @@
 use borrow.Author.Needs.{needs}
 use native.Mathlib.Omega.{arith}
 use Prim.Native.Nat.{ℕ, _<_, _≤_, _-_}
-use mathlib.Core.Path.{_≡_, refl, ap, sym, _∙_}
+use mathlib.Core.Path.{_≡_, ap, sym, _∙_}
 use lib.ListN.{getD}
 use Rattle.lists.specs.Lists.{every, everyTwo, howMany}
 use Rattle.records.specs.Carriers.{expected}
@@ -12,7 +12,7 @@ use Rattle.passes.specs.Passes.{recordOn, latest}
 use Rattle.soundness.specs.Seats.{seatFits, otherPort, portKey, spotKey, seatsFit}
 use Rattle.passes.proofs.Turns.{every-none, two-none, many-none, every-next, many-next}
 use Rattle.passes.proofs.Latest.{marked, marked-none, marked-more, latest-low}
-use Rattle.soundness.proofs.Seated.{spot-more, port-more}
+use Rattle.soundness.proofs.Seated.{key-more}
 use Rattle.soundness.proofs.seats.seats.Statement.{statement}
 use Rattle.soundness.proofs.seats.seats.Tie as tie
 
@@ -44,6 +44,7 @@ loop-holds c =
     )
 
 loop-again : tie.Need-loop-again Inv-loop μ-loop
+unfolding otherSpot otherPort
 loop-again c =
     let t = c .before .before in
     let p = t .before in
@@ -62,8 +63,8 @@ loop-again c =
       rw (spot, b .loop .inv .2) (marked-more (spotKey m) 256 k),
       rw (port, b .loop .inv .3) (marked-more (portKey m) 256 k),
       rw (every-next (seatFits (a .used) (a .places)) (recordOn m) k, t .seat .ensures, b .loop .inv .4),
-      rw (spot, b .loop .inv .2, b .loop .inv .5) (sym (spot-more m k low)),
-      rw (port, b .loop .inv .3, b .loop .inv .6) (sym (port-more m k near)),
+      rw (spot, b .loop .inv .2, b .loop .inv .5) (sym (key-more (λ c. c .spot) m k low)),
+      rw (port, b .loop .inv .3, b .loop .inv .6) (sym (key-more (λ c. c .port) m k near)),
       omega (arith, one .1),
       rw (many-next expected (recordOn m) k, one .0, b .loop .inv .8),
     )

@@ -12,4 +12,9 @@ tie-spec =
     (λ c. search needs) (λ c. search needs) (λ c. search needs) (λ c. search needs) (λ c. search needs) (λ c κs. search needs)
     (λ c κs. search needs)
     (λ c. rw (eq-eqb _ _ (c .before .if1 .taken)) (c .zeros .ensures))
-    (λ c. rw (ne-eqb _ _ (c .before .before .before .if1 .left), c .opens .ensures, c .before .same .ensures, c .before .before .wide .ensures)))
+    (λ c. rw (
+      ne-eqb _ _ (c .before .before .before .if1 .left),
+      c .opens .ensures,
+      c .before .same .ensures,
+      c .before .before .wide .ensures,
+    )))
