@@ -11,26 +11,36 @@ use Rattle.image.specs.Image.{table, portFrom, carrierFrom, portBytes, c
 use Rattle.image.proofs.Table.{is-table}
 
 -- a fact about a list of n numbers, from the same about every table
-pub by-table : (P : List ℕ → Type 0) (n : ℕ) (l : List ℕ) → length l ≡ n → ((f : ℕ → ℕ) → P (table n f)) → P l
+by-table : (P : List ℕ → Type 0) (n : ℕ) (l : List ℕ) → length l ≡ n → ((f : ℕ → ℕ) → P (table n f)) → P l
 by-table P n l e h = subst P (is-table l n 0 e) (h (λ k. getD l k 0))
 
 pub port-made : (t a r v p g : ℕ) (n : List ℕ) → length n ≡ 16
     → set (set (set (sets (t ∷ a ∷ r ∷ replicate 19 0) 3 n) 19 v) 20 p) 21 g ≡ t ∷ a ∷ r ∷ (n ++ (v ∷ p ∷ g ∷ []))
 unfolding table
 port-made t a r v p g n e =
-    by-table (λ n. set (set (set (sets (t ∷ a ∷ r ∷ replicate 19 0) 3 n) 19 v) 20 p) 21 g ≡ t ∷ a ∷ r ∷ (n ++ (v ∷ p ∷ g ∷ []))) 16 n e (λ f. refl)
+    by-table (λ n. set (set (set (sets (t ∷ a ∷ r ∷ replicate 19 0) 3 n) 19 v) 20 p) 21 g ≡ t ∷ a ∷ r ∷ (n ++ (v ∷ p ∷ g ∷ []))) 16 n e
+    (λ f. refl)
 
 pub port-back : (q : Port) → length (q .tie .bytes) ≡ 16 → portFrom (portBytes q) 0 ≡ q
 unfolding table portBytes
 port-back q e =
     by-table (λ n. portFrom (q .transfer ∷ q .access ∷ q .reserved ∷ (n ++ (q .movement ∷ q .pod ∷ q .tag ∷ []))) 0
-    ≡ record { transfer = q .transfer; access = q .access; reserved = q .reserved; tie = record { bytes = n }; movement = q .movement; pod = q .pod; tag = q .tag })
+    ≡ record {
+      transfer = q .transfer;
+      access = q .access;
+      reserved = q .reserved;
+      tie = record { bytes = n };
+      movement = q .movement;
+      pod = q .pod;
+      tag = q .tag;
+    })
     16 (q .tie .bytes) e (λ f. refl)
 
 -- a carrier's bytes, when its name and its map stand in them
 abbrev made : (p s o n x t i l a : ℕ) → List ℕ → List ℕ → List ℕ
 made p s o n x t i l a name map =
-    set (set (set (set (set (set (set (set (set (sets (sets (replicate 50 0) 0 name) 22 map) 16 p) 17 s) 18 o) 19 n) 20 x) 21 t) 47 i) 48 l) 49 a
+    set (set (set (set (set (set (set (set (set
+    (sets (sets (replicate 50 0) 0 name) 22 map) 16 p) 17 s) 18 o) 19 n) 20 x) 21 t) 47 i) 48 l) 49 a
 
 abbrev spelt : (p s o n x t i l a : ℕ) → List ℕ → List ℕ → List ℕ
 spelt p s o n x t i l a name map = name ++ (p ∷ s ∷ o ∷ n ∷ x ∷ t ∷ (map ++ (i ∷ l ∷ a ∷ [])))

@@ -1,8 +1,8 @@
 -- What the bytes that are written make of the tool.
-use Prim.Native.Nat.{ℕ, suc, _+_, _*_, _<_, _≤_}
+use Prim.Native.Nat.{ℕ, _+_, _<_, _≤_}
 use native.Mathlib.Nat.{zero-add}
 use native.Mathlib.Omega.{arith}
-use mathlib.Core.Path.{_≡_, refl, ap, sym, _∙_}
+use mathlib.Core.Path.{_≡_, refl, ap, _∙_}
 use mathlib.Core.Logic.{_≢_}
 use mathlib.Core.Bool.{Bool, true, false}
 use mathlib.Core.List.{List, [], _∷_, _++_}
@@ -10,10 +10,10 @@ use lib.ListN.{length, getD, length-append}
 use lib.Seq.{sets}
 use lib.Dec.{ltb}
 use borrow.Author.Tests.{ltb-true, ltb-false}
-use Rattle.lists.specs.Lists.{shifted}
 use Rattle.records.specs.declared.port.Port.{Port}
 use Rattle.records.specs.declared.carrier.Carrier.{Carrier}
-use Rattle.image.specs.Image.{table, byteAt, bytesFrom, nameFrom, portFrom, carrierFrom, reportFrom, portBytes, carrierBytes, portStart, carrierStart, toolFrom}
+use Rattle.image.specs.Image.{byteAt, bytesFrom, nameFrom, portFrom, carrierFrom, reportFrom, portBytes}
+use Rattle.image.specs.Image.{carrierBytes, portStart, carrierStart, toolFrom}
 use Rattle.image.proofs.Table.{table-same, length-table, getD-table}
 use Rattle.image.proofs.Written.{before-stays, after-stays, stands-there}
 use Rattle.image.proofs.Bytes.{port-back, carrier-back}
@@ -34,7 +34,8 @@ module _ (m n : List ℕ) where
   bytes-same : (o p s k l : ℕ) → s + k ≤ l → Alike l o p → bytesFrom m (o + s) k ≡ bytesFrom n (p + s) k
   bytes-same o p s k l b h =
       table-same k (λ i. byteAt m (o + s + i)) (λ i. byteAt n (p + s + i))
-      (λ i c. let a : o + s + i ≡ o + (s + i) = omega arith in let d : p + s + i ≡ p + (s + i) = omega arith in rw (a, d) (h (s + i) (omega arith)))
+      (λ i c. let a : o + s + i ≡ o + (s + i) = omega arith in let d : p + s + i ≡ p + (s + i) = omega arith in
+      rw (a, d) (h (s + i) (omega arith)))
 
   first-same : (o p l : ℕ) → 0 < l → Alike l o p → byteAt m o ≡ byteAt n p
   first-same o p l b h =
@@ -75,7 +76,13 @@ module _ (m n : List ℕ) where
 
   pub report-same : (o p : ℕ) → Alike 20 o p → reportFrom m o ≡ reportFrom n p
   report-same o p h =
-      rw (first-same o p 20 (omega arith) h, h 1 (omega arith), bytes-same o p 2 16 20 (omega arith) h, h 18 (omega arith), h 19 (omega arith))
+      rw (
+        first-same o p 20 (omega arith) h,
+        h 1 (omega arith),
+        bytes-same o p 2 16 20 (omega arith) h,
+        h 18 (omega arith),
+        h 19 (omega arith),
+      )
 
 pub length-port : (q : Port) → length (q .tie .bytes) ≡ 16 → length (portBytes q) ≡ 22
 unfolding portBytes
@@ -85,7 +92,8 @@ pub length-carrier : (c : Carrier) → length (c .name .bytes) ≡ 16 → length
 unfolding carrierBytes
 length-carrier c e h =
     let l = length-append (c .map) (c .id ∷ c .slot ∷ c .accessing ∷ []) in
-    let k = length-append (c .name .bytes) (c .place ∷ c .spot ∷ c .port ∷ c .opened ∷ c .cancelled ∷ c .cameout ∷ (c .map ++ (c .id ∷ c .slot ∷ c .accessing ∷ []))) in
+    let k = length-append (c .name .bytes) (c .place ∷ c .spot ∷ c .port ∷ c .opened ∷ c .cancelled ∷ c .cameout ∷
+    (c .map ++ (c .id ∷ c .slot ∷ c .accessing ∷ []))) in
     omega arith
 
 -- a port that is written is read back; one that lies apart stays
@@ -93,13 +101,15 @@ module _ (m : List ℕ) (o : ℕ) where
   pub port-there : (q : Port) → length (q .tie .bytes) ≡ 16 → o + 22 ≤ length m → portFrom (sets m o (portBytes q)) o ≡ q
   port-there q e b =
       let l = length-port q e in
-      port-same (sets m o (portBytes q)) (portBytes q) o 0 (λ i c. rw zero-add (stands-there m o (portBytes q) i (omega arith) (omega arith))) ∙ port-back q e
+      port-same (sets m o (portBytes q)) (portBytes q) o 0
+      (λ i c. rw zero-add (stands-there m o (portBytes q) i (omega arith) (omega arith))) ∙ port-back q e
 
   pub carrier-there : (c : Carrier) → length (c .name .bytes) ≡ 16 → length (c .map) ≡ 25 → o + 50 ≤ length m
       → carrierFrom (sets m o (carrierBytes c)) o ≡ c
   carrier-there c e h b =
       let l = length-carrier c e h in
-      carrier-same (sets m o (carrierBytes c)) (carrierBytes c) o 0 (λ i d. rw zero-add (stands-there m o (carrierBytes c) i (omega arith) (omega arith)))
+      carrier-same (sets m o (carrierBytes c)) (carrierBytes c) o 0
+      (λ i d. rw zero-add (stands-there m o (carrierBytes c) i (omega arith) (omega arith)))
       ∙ carrier-back c e h
 
   -- what lies before or after is not touched

@@ -1,14 +1,13 @@
 -- What the bytes that are written make of the report list.
-use Prim.Native.Nat.{ℕ, _+_, _*_, _<_, _≤_}
+use Prim.Native.Nat.{ℕ, _+_, _<_}
 use native.Mathlib.Nat.{zero-add}
 use native.Mathlib.Omega.{arith}
-use mathlib.Core.Path.{_≡_, refl, ap, sym, _∙_}
+use mathlib.Core.Path.{_≡_, refl, _∙_}
 use mathlib.Core.Logic.{_≢_}
 use mathlib.Core.List.{List, [], _∷_}
 use lib.ListN.{length, getD, set, replicate, length-append}
 use lib.Seq.{sets, length-sets, getD-set-same}
 use Rattle.rules.specs.declared.report.Report.{Report}
-use Rattle.rules.specs.declared.report.Reports.{Reports}
 use Rattle.lists.specs.Lists.{fill}
 use Rattle.rules.specs.Reports.{listed, noReports}
 use Rattle.image.specs.Image.{table, byteAt, reportFrom, reportBytes, reportStart, reportsFrom}
@@ -58,5 +57,6 @@ module _ (m : List ℕ) (full : length m ≡ 141) (k : ℕ) (b : k < 7) (r : Rep
       let l = length-sets m (reportStart k) (reportBytes r) in
       rw (
         getD-set-same (sets m (reportStart k) (reportBytes r)) 0 v 0 (omega arith),
-        table-set 7 (λ j. reportFrom m (reportStart j)) (λ j. reportFrom (written v) (reportStart j)) k r (there v) (λ j c d. elsewhere v j d),
+        table-set 7 (λ j. reportFrom m (reportStart j)) (λ j. reportFrom (written v) (reportStart j)) k r (there v)
+            (λ j c d. elsewhere v j d),
       )

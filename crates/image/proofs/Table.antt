@@ -2,7 +2,7 @@
 use Prim.Native.Nat.{ℕ, zero, suc, _+_, _<_, _≤_, suc-le-suc}
 use native.Mathlib.Nat.{le-of-suc-le-suc}
 use native.Mathlib.Omega.{arith}
-use mathlib.Core.Path.{_≡_, refl, ap, sym, _∙_}
+use mathlib.Core.Path.{_≡_, refl, ap, _∙_}
 use mathlib.Core.Logic.{_≢_}
 use mathlib.Core.List.{List, [], _∷_, _++_}
 use lib.ListN.{length, getD, take, set, replicate}
@@ -39,7 +39,8 @@ module _ {A : Type 0} where
   fill-all (x ∷ l) (suc n) z e = ap (λ t. x ∷ t) (fill-all l n z (omega arith))
 
   -- a loop that fills an array with a table
-  pub copies : (n : ℕ) (f : ℕ → A) (z : A) (i : ℕ) → i < n → set (fill n z (take i (table n f))) i (f i) ≡ fill n z (take (i + 1) (table n f))
+  pub copies : (n : ℕ) (f : ℕ → A) (z : A) (i : ℕ) → i < n
+      → set (fill n z (take i (table n f))) i (f i) ≡ fill n z (take (i + 1) (table n f))
   copies n f z i h =
       let l = length-table n f in
       rw (← getD-table n f i z h) (fill-more n z z (table n f) i (omega arith))

@@ -42,7 +42,8 @@ pub after-stays : (m : List ℕ) (o : ℕ) (vs : List ℕ) (i : ℕ) → o + len
 after-stays m o [] i h = refl
 after-stays m o (x ∷ vs) i h = after-stays (set m o x) (suc o) vs i (omega arith) ∙ getD-set-other m o i x 0 (omega arith)
 
-pub stands-there : (m : List ℕ) (o : ℕ) (vs : List ℕ) (i : ℕ) → o + length vs ≤ length m → i < length vs → byteAt (sets m o vs) (o + i) ≡ byteAt vs i
+pub stands-there : (m : List ℕ) (o : ℕ) (vs : List ℕ) (i : ℕ) → o + length vs ≤ length m → i < length vs
+    → byteAt (sets m o vs) (o + i) ≡ byteAt vs i
 stands-there m o [] i h b = absurd (none b)
   where
     none : i < 0 → ⊥

@@ -63,12 +63,14 @@ lanes-and (suc w) a b =
     ∙ cross (a 0) (b 0) (every itself (table w (λ i. a (suc i)))) (every itself (table w (λ i. b (suc i))))
 
 pub name-tests : (m : List ℕ) (o : ℕ)
-    → every itself (table 16 (λ i. nameLane (getD firsts i 0) (getD lasts i 0) (byteAt m (o + i)) (byteAt m (o + i + 1)))) ≡ namedBy (carrierFrom m o)
+    → every itself (table 16 (λ i. nameLane (getD firsts i 0) (getD lasts i 0) (byteAt m (o + i)) (byteAt m (o + i + 1))))
+    ≡ namedBy (carrierFrom m o)
 unfolding namedBy holdsName headOr0
 name-tests m o =
     let f : ℕ → ℕ = λ i. byteAt m (o + i) in
     ap (every itself)
-    (table-same 16 (λ i. nameLane (getD firsts i 0) (getD lasts i 0) (byteAt m (o + i)) (byteAt m (o + i + 1))) (λ i. ended f i && leb (getD firsts i 0) (f i))
+    (table-same 16 (λ i. nameLane (getD firsts i 0) (getD lasts i 0) (byteAt m (o + i)) (byteAt m (o + i + 1)))
+    (λ i. ended f i && leb (getD firsts i 0) (f i))
     (λ i h. ap (λ j. nameLane (getD firsts i 0) (getD lasts i 0) (f i) (byteAt m j)) (next i)))
     ∙ lanes-and 16 (ended f) (λ i. leb (getD firsts i 0) (f i)) ∙ ap₂ _&&_ (zero-ended f) (begins f ∙ head f)
   where
@@ -104,10 +106,12 @@ pub field-tests : (m : List ℕ) (k : ℕ)
 unfolding fieldsFit
 field-tests m k =
     ap (every itself)
-    (table-same 32 (λ i. between (getD leasts i 0) (byteAt m (109 + 50 * k + i)) (getD mosts i 0)) (λ i. between (getD leasts i 0) (f i) (getD mosts i 0))
+    (table-same 32 (λ i. between (getD leasts i 0) (byteAt m (109 + 50 * k + i)) (getD mosts i 0))
+    (λ i. between (getD leasts i 0) (f i) (getD mosts i 0))
     (λ i h. ap (λ j. between (getD leasts i 0) (byteAt m j) (getD mosts i 0)) (there i)))
     ∙ fields-all f
-    ∙ ap (λ l. leb (f 0) 4 && (leb (f 1) 1 && (leb (f 2) 1 && (leb (f 3) 1 && (every isCode l && (statusInRange (f 29) && (statusInRange (f 30) && statusInRange (f 31)))))))) codes
+    ∙ ap (λ l. leb (f 0) 4 && (leb (f 1) 1 && (leb (f 2) 1
+    && (leb (f 3) 1 && (every isCode l && (statusInRange (f 29) && (statusInRange (f 30) && statusInRange (f 31)))))))) codes
   where
     f : ℕ → ℕ
     f i = byteAt m (carrierStart k + (18 + i))

@@ -47,7 +47,8 @@ module _ (P : ℕ → ℕ → Bool) where
   lanes-none w = table-none w true
 
   pub lanes-more : (w k : ℕ) → table w (λ i. getD (lanes w k) i false && P i k) ≡ lanes w (k + 1)
-  lanes-more w k = table-same w _ _ (λ i h. ap (λ b. b && P i k) (getD-table w _ i false h) ∙ flip _ (P i k) ∙ sym (every-next (P i) (λ k. k) k))
+  lanes-more w k = table-same w _ _ (λ i h. ap (λ b. b && P i k) (getD-table w _ i false h) ∙ flip _ (P i k)
+      ∙ sym (every-next (P i) (λ k. k) k))
     where
       flip : (a b : Bool) → (a && b) ≡ (b && a)
       flip true true = refl
@@ -60,6 +61,8 @@ module _ (P : ℕ → ℕ → Bool) where
       → every itself (lanes w n) ≡ every F (table n f)
   lanes-all w n F f h =
       same-test _ _
-      (λ e. every-of F f n (λ k b. sym (h k b) ∙ every-of itself (λ i. P i k) w (λ i c. every-on (P i) (λ k. k) n (every-on itself (λ i. every (P i) (table n (λ k. k))) w e i c) k b)))
+      (λ e. every-of F f n (λ k b. sym (h k b)
+      ∙ every-of itself (λ i. P i k) w (λ i c. every-on (P i) (λ k. k) n
+      (every-on itself (λ i. every (P i) (table n (λ k. k))) w e i c) k b)))
       (λ e. every-of itself (λ i. every (P i) (table n (λ k. k))) w
       (λ i c. every-of (P i) (λ k. k) n (λ k b. every-on itself (λ i. P i k) w (h k b ∙ every-on F f n e k b) i c)))

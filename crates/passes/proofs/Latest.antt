@@ -76,8 +76,10 @@ module _ {A : Type 0} (g : A → ℕ) (f : ℕ → A) where
     where
       go : (b : Bool) → eqb (g (f k)) v ≡ b
           → every (λ x. eqb (g x) 0 || not (eqb (g x) v)) (table k f) ≡ (eqb v 0 || eqb (latest (λ j. g (f j)) v k) 0)
-          → ((eqb (g (f k)) 0 || not b) && every (λ x. eqb (g x) 0 || not (eqb (g x) v)) (table k f)) ≡ (eqb v 0 || eqb (cond b (suc k) (latest (λ j. g (f j)) v k)) 0)
-      go true q r = let z = eqb-true (g (f k)) v q in rw (z, r) (both (eqb v 0) (eqb (latest (λ j. g (f j)) v k) 0) (eqb (suc k) 0) (ne-eqb (suc k) 0 (λ e. omega arith)))
+          → ((eqb (g (f k)) 0 || not b) && every (λ x. eqb (g x) 0 || not (eqb (g x) v)) (table k f))
+          ≡ (eqb v 0 || eqb (cond b (suc k) (latest (λ j. g (f j)) v k)) 0)
+      go true q r = let z = eqb-true (g (f k)) v q in
+          rw (z, r) (both (eqb v 0) (eqb (latest (λ j. g (f j)) v k) 0) (eqb (suc k) 0) (ne-eqb (suc k) 0 (λ e. omega arith)))
         where
           both : (a b c : Bool) → c ≡ false → ((a || false) && (a || b)) ≡ (a || c)
           both true b c e = refl

@@ -35,7 +35,8 @@ number-is (suc n) f g a b e zero h = let x = a 0 (omega arith) in let y = b 0 (o
 number-is (suc n) f g a b e (suc i) h =
     let x = a 0 (omega arith) in
     let y = b 0 (omega arith) in
-    number-is n (λ i. f (suc i)) (λ i. g (suc i)) (λ i c. a (suc i) (suc-le-suc c)) (λ i c. b (suc i) (suc-le-suc c)) (omega arith) i (le-of-suc-le-suc h)
+    number-is n (λ i. f (suc i)) (λ i. g (suc i)) (λ i c. a (suc i) (suc-le-suc c)) (λ i c. b (suc i) (suc-le-suc c)) (omega arith) i
+    (le-of-suc-le-suc h)
 
 -- what holds of each of four
 pub four : (Q : ℕ → Type 0) → Q 0 → Q 1 → Q 2 → Q 3 → (i : ℕ) → i < 4 → Q i
@@ -75,7 +76,8 @@ module _ (m : List ℕ) where
   words-same o p e = (
     number-same 8 (λ i. byteAt m (o + i)) (λ i. byteAt m (p + i)) (λ i h. each i (omega arith)),
     number-same 8 (λ i. byteAt m (o + 8 + i)) (λ i. byteAt m (p + 8 + i))
-        (λ i h. let x : o + 8 + i ≡ o + (8 + i) = omega arith in let y : p + 8 + i ≡ p + (8 + i) = omega arith in rw (x, y) (each (8 + i) (omega arith))),
+        (λ i h. let x : o + 8 + i ≡ o + (8 + i) = omega arith in let y : p + 8 + i ≡ p + (8 + i) = omega arith in
+        rw (x, y) (each (8 + i) (omega arith))),
   )
     where
       each : (i : ℕ) → i < 16 → byteAt m (o + i) ≡ byteAt m (p + i)
@@ -95,11 +97,13 @@ module _ (m : List ℕ) where
       (λ e. let w = words-same o p e in and-i (eq-eqb (word m o) (word m p) (w .0)) (eq-eqb (word m (o + 8)) (word m (p + 8)) (w .1)))
     where
       there : (eqb (word m o) (word m p) && eqb (word m (o + 8)) (word m (p + 8))) ≡ true → sameName (nameFrom m o) (nameFrom m p) ≡ true
-      there e = name-same (nameFrom m o) (nameFrom m p) (ap (λ l. record { bytes = l }) (table-same 16 (λ i. byteAt m (o + i)) (λ i. byteAt m (p + i)) (λ i h. half i h (ltb i 8) refl)))
+      there e = name-same (nameFrom m o) (nameFrom m p)
+          (ap (λ l. record { bytes = l }) (table-same 16 (λ i. byteAt m (o + i)) (λ i. byteAt m (p + i)) (λ i h. half i h (ltb i 8) refl)))
         where
           half : (i : ℕ) → i < 16 → (b : Bool) → ltb i 8 ≡ b → byteAt m (o + i) ≡ byteAt m (p + i)
           half i h true q =
-              number-is 8 (λ i. byteAt m (o + i)) (λ i. byteAt m (p + i)) a c (eqb-true (word m o) (word m p) (and-l _ _ e)) i (ltb-true i 8 q)
+              number-is 8 (λ i. byteAt m (o + i)) (λ i. byteAt m (p + i)) a c (eqb-true (word m o) (word m p) (and-l _ _ e)) i
+              (ltb-true i 8 q)
           half i h false q =
               let l = ltb-false i 8 q in
               let x : o + 8 + (i - 8) ≡ o + i = omega arith in
@@ -114,7 +118,8 @@ module _ (m : List ℕ) where
   marked-enough k =
       same-test _ _
       (λ e. every-of other (recordOn m) k (λ i h. near i h e (ltb i j) refl))
-      (λ e. every-of other (recordOn m) j (λ i h. every-on other (recordOn m) k e i (let b = latest-low (markKey m) (markKey m k) k in omega arith)))
+      (λ e. every-of other (recordOn m) j (λ i h. every-on other (recordOn m) k e i
+      (let b = latest-low (markKey m) (markKey m k) k in omega arith)))
     where
       other : Carrier → Bool
       other c = otherName c (recordOn m k)
@@ -127,5 +132,6 @@ module _ (m : List ℕ) where
       near i h e false q = go (sameName (nameFrom m (carrierStart i)) (nameFrom m (carrierStart k))) refl
         where
           go : (b : Bool) → sameName (nameFrom m (carrierStart i)) (nameFrom m (carrierStart k)) ≡ b → not b ≡ true
-          go true t = absurd (later-others (markKey m) (markKey m k) k i (ltb-false i j q) h (mark-same (carrierStart i) (carrierStart k) t))
+          go true t = absurd (later-others (markKey m) (markKey m k) k i (ltb-false i j q) h
+              (mark-same (carrierStart i) (carrierStart k) t))
           go false t = refl

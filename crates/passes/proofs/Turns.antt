@@ -41,9 +41,11 @@ module _ {A : Type 0} where
   pub every-suc : (F : A → Bool) (f : ℕ → A) (k : ℕ) → every F (table (suc k) f) ≡ (F (f k) && every F (table k f))
   unfolding every table
   every-suc F f zero = refl
-  every-suc F f (suc k) = ap (λ b. F (f 0) && b) (every-suc F (λ j. f (suc j)) k) ∙ swap (F (f 0)) (F (f (suc k))) (every F (table k (λ j. f (suc j))))
+  every-suc F f (suc k) = ap (λ b. F (f 0) && b) (every-suc F (λ j. f (suc j)) k)
+      ∙ swap (F (f 0)) (F (f (suc k))) (every F (table k (λ j. f (suc j))))
 
-  two-suc : (F : A → A → Bool) (f : ℕ → A) (k : ℕ) → everyTwo F (table (suc k) f) ≡ (every (λ x. F x (f k)) (table k f) && everyTwo F (table k f))
+  two-suc : (F : A → A → Bool) (f : ℕ → A) (k : ℕ)
+      → everyTwo F (table (suc k) f) ≡ (every (λ x. F x (f k)) (table k f) && everyTwo F (table k f))
   unfolding every everyTwo table
   two-suc F f zero = refl
   two-suc F f (suc k) =
@@ -87,7 +89,8 @@ module _ {A : Type 0} where
   unfolding everyTwo table
   two-on F f zero e i j a b = absurd (omega arith)
   two-on F f (suc n) e i zero a b = absurd (omega arith)
-  two-on F f (suc n) e zero (suc j) a b = every-on (F (f 0)) (λ k. f (suc k)) n (and-l (every (F (f 0)) (table n (λ k. f (suc k)))) _ e) j (le-of-suc-le-suc b)
+  two-on F f (suc n) e zero (suc j) a b = every-on (F (f 0)) (λ k. f (suc k)) n
+      (and-l (every (F (f 0)) (table n (λ k. f (suc k)))) _ e) j (le-of-suc-le-suc b)
   two-on F f (suc n) e (suc i) (suc j) a b =
       two-on F (λ k. f (suc k)) n (and-r (every (F (f 0)) (table n (λ k. f (suc k)))) _ e) i j (le-of-suc-le-suc a) (le-of-suc-le-suc b)
 
@@ -99,7 +102,8 @@ module _ {A : Type 0} where
       (two-of F (λ k. f (suc k)) n (λ i j a b. h (suc i) (suc j) (suc-le-suc a) (suc-le-suc b)))
 
   -- a loop that stops at the first failure
-  pub stopped : (F : A → Bool) (f : ℕ → A) (ok : Bool) (j n : ℕ) → j ≤ n → ok ≡ every F (table j f) → (ok && ltb j n) ≡ false → ok ≡ every F (table n f)
+  pub stopped : (F : A → Bool) (f : ℕ → A) (ok : Bool) (j n : ℕ) → j ≤ n → ok ≡ every F (table j f) → (ok && ltb j n) ≡ false
+      → ok ≡ every F (table n f)
   stopped F f true j n h e t = let b = ltb-false j n t in let z : j ≡ n = omega arith in rw z at e
   stopped F f false j n h e t = sym (go (every F (table n f)) refl)
     where

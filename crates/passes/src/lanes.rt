@@ -25,7 +25,8 @@ fn name_lanes(good: &mut [bool], m: &[u8; 1891], o: usize, first: &[u8; 16], las
     requires { ⌜ length (now good) ≡ 16 ⌝ }
     requires { ⌜ o + 17 ≤ 1891 ⌝ }
     ensures { λ _. ⌜ now (good .exit) ≡ table 16 (λ i. getD (now (good .entry)) i false
-        && nameLane (getD (now (first .entry)) i 0) (getD (now (last .entry)) i 0) (byteAt (now (m .entry)) (o + i)) (byteAt (now (m .entry)) (o + i + 1))) ⌝ }
+        && nameLane (getD (now (first .entry)) i 0) (getD (now (last .entry)) i 0) (byteAt (now (m .entry)) (o + i))
+        (byteAt (now (m .entry)) (o + i + 1))) ⌝ }
 {
     let mut i = 0;
     while i < 16 {

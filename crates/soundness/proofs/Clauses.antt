@@ -15,7 +15,8 @@ use Rattle.records.specs.declared.carrier.Carrier.{Carrier}
 use Rattle.records.specs.Names.{noName, sameName, holdsName}
 use Rattle.records.specs.Carriers.{expected}
 use Rattle.rules.specs.State.{State, portOf}
-use Rattle.rules.specs.Sound.{portInRange, carrierInRange, inRange, otherName, tieKept, tieHeld, portTieHeld, tiesAgree, placeAgrees, otherSpot, fewExpected, portAgrees, openAgrees, sound, zeroPort}
+use Rattle.rules.specs.Sound.{portInRange, carrierInRange, inRange, otherName, tieKept, tieHeld, portTieHeld, tiesAgree}
+use Rattle.rules.specs.Sound.{placeAgrees, otherSpot, fewExpected, portAgrees, openAgrees, sound, zeroPort}
 use Rattle.rules.proofs.Names.{name-is, name-same}
 use Rattle.image.specs.Image.{table}
 use Rattle.image.proofs.Table.{length-table, getD-table}
@@ -24,7 +25,9 @@ use Rattle.soundness.specs.Seats.{portOn, seatFits, otherPort, portKey, 
 use Rattle.passes.proofs.Turns.{every-on, every-of, two-on, two-of}
 use Rattle.passes.proofs.Latest.{latest-low, later-others, latest-has}
 use Rattle.soundness.proofs.Unused.{rest-on}
-use Rattle.soundness.proofs.Judged.{in-range, seat-places, range-named, range-fields, range-port, range-seat, open-untied, port-fits, fits-range, fits-agrees, tie-none, tie-some, stateOn, port-on, port-off, held-by}
+use Rattle.soundness.proofs.Judged.{in-range, seat-places, range-named, range-fields, range-port, range-seat, open-untied}
+use Rattle.soundness.proofs.Judged.{port-fits, fits-range, fits-agrees, tie-none, tie-some, stateOn, port-on, port-off}
+use Rattle.soundness.proofs.Judged.{held-by}
 
 -- what the passes find where all is well
 pub record Passed (m : List ℕ) (P B n : ℕ) : Type 0 where
@@ -48,7 +51,8 @@ module _ (m : List ℕ) (P B n : ℕ) (some : 1 ≤ P) (four : P ≤ 4) (small :
   module _ (x : Passed m P B n) where
     ranged : (j : ℕ) → j < n → carrierInRange P B (row j) ≡ true
     ranged j h =
-        in-range P B (row j) (every-on namedBy row n (x .named) j h) (every-on fieldsFit row n (x .fields) j h) (every-on (seatFits P B) row n (x .seats) j h)
+        in-range P B (row j) (every-on namedBy row n (x .named) j h) (every-on fieldsFit row n (x .fields) j h)
+        (every-on (seatFits P B) row n (x .seats) j h)
 
     -- the port that a carrier names is tied to it
     tied : (j : ℕ) → j < n → row j .port ≢ 0
@@ -71,7 +75,8 @@ module _ (m : List ℕ) (P B n : ℕ) (some : 1 ≤ P) (four : P ≤ 4) (small :
     opens j h = go (eqb (row j .port) 0) refl
       where
         go : (b : Bool) → eqb (row j .port) 0 ≡ b → openAgrees (portOf s (row j .port)) (row j) ≡ true
-        go true e = open-untied P B (row j) (portOf s (row j .port)) (every-on (seatFits P B) row n (x .seats) j h) (eqb-true (row j .port) 0 e)
+        go true e = open-untied P B (row j) (portOf s (row j .port)) (every-on (seatFits P B) row n (x .seats) j h)
+            (eqb-true (row j .port) 0 e)
         go false e = and-r (sameName (portOf s (row j .port) .tie) (row j .name)) _ (tied j h (eqb-false (row j .port) 0 e))
 
     -- a tied port is named by a carrier
@@ -79,14 +84,16 @@ module _ (m : List ℕ) (P B n : ℕ) (some : 1 ≤ P) (four : P ≤ 4) (small :
     unfolding tieHeld
     holds p a b = go (ltb P p) refl
       where
-        named : (v : ℕ) → latest (portKey m) p n ≡ v → (sameName (portOn m (p - 1) .tie) noName || any (λ c. eqb (c .port) p) (table n row)) ≡ true
+        named : (v : ℕ) → latest (portKey m) p n ≡ v
+            → (sameName (portOn m (p - 1) .tie) noName || any (λ c. eqb (c .port) p) (table n row)) ≡ true
         named zero q = or-l _ (sym (tie-none m (p - 1)) ∙ ap (tieFits m (p - 1)) (sym q) ∙ x .ties p a b)
         named (suc j) q =
             let l = latest-low (portKey m) p n in
             let t = length-table n row in
             or-r (sameName (portOn m (p - 1) .tie) noName)
             (any-here (λ c. eqb (c .port) p) (table n row) j (row 0) (omega arith)
-            (ap (λ c. eqb (c .port) p) (getD-table n row j (row 0) (omega arith)) ∙ eq-eqb (row j .port) p (latest-has (portKey m) p n j q)))
+            (ap (λ c. eqb (c .port) p) (getD-table n row j (row 0) (omega arith))
+            ∙ eq-eqb (row j .port) p (latest-has (portKey m) p n j q)))
 
         go : (b : Bool) → ltb P p ≡ b → portTieHeld s p ≡ true
         go true e = rw (port-off m P B n p a (ltb-true P p e)) (or-l _ (name-same noName noName refl))
@@ -107,7 +114,8 @@ module _ (m : List ℕ) (P B n : ℕ) (some : 1 ≤ P) (four : P ≤ 4) (small :
         go zero q = or-l _ (sym (tie-none m k) ∙ ties 0 q)
         go (suc j) q =
             let l = latest-low (portKey m) (suc k) n in
-            let t : (sameName (portOn m k .tie) (row j .name) && openAgrees (portOn m k) (row j)) ≡ true = sym (tie-some m k j) ∙ ties (suc j) q in
+            let t : (sameName (portOn m k .tie) (row j .name) && openAgrees (portOn m k) (row j)) ≡ true = sym (tie-some m k j)
+            ∙ ties (suc j) q in
             or-r (sameName (portOn m k .tie) noName)
             (ap holdsName (name-is (portOn m k .tie) (row j .name) (and-l _ _ t)) ∙ every-on namedBy row n (x .named) j (omega arith))
 
@@ -116,10 +124,12 @@ module _ (m : List ℕ) (P B n : ℕ) (some : 1 ≤ P) (four : P ≤ 4) (small :
     passed-sound =
         rw (length-table P (portOn m))
         (and-i (and-i (and-i (and-i (and-i (and-i (and-i
-        (and-i (and-i (and-i (and-i (le-leb 1 P some) (le-leb P 4 four)) (le-leb B 16 small)) (every-of portInRange (portOn m) P port-ranged)) (every-of (carrierInRange P B) row n ranged))
+        (and-i (and-i (and-i (and-i (le-leb 1 P some) (le-leb P 4 four)) (le-leb B 16 small))
+        (every-of portInRange (portOn m) P port-ranged)) (every-of (carrierInRange P B) row n ranged))
         (x .names))
         (and-i (every-of (λ c. tieKept (portOf s (c .port)) c) row n kept)
-        (and-i (and-i (and-i (holds 1 (omega arith) (omega arith)) (holds 2 (omega arith) (omega arith))) (holds 3 (omega arith) (omega arith))) (holds 4 (omega arith) (omega arith)))))
+        (and-i (and-i (and-i (holds 1 (omega arith) (omega arith)) (holds 2 (omega arith) (omega arith)))
+        (holds 3 (omega arith) (omega arith))) (holds 4 (omega arith) (omega arith)))))
         (every-of placeAgrees row n (λ j h. seat-places P B (row j) (every-on (seatFits P B) row n (x .seats) j h))))
         (x .spots))
         (x .few))
@@ -200,8 +210,10 @@ module _ (m : List ℕ) (P B n : ℕ) (some : 1 ≤ P) (four : P ≤ 4) (small :
         let l = length-table n row in
         let none : any (λ c. eqb (c .port) p) (table n row) ≡ false =
         any-not (λ c. eqb (c .port) p) (table n row) (row 0)
-        (λ j h. ap (λ c. eqb (c .port) p) (getD-table n row j (row 0) (omega arith)) ∙ ne-eqb (row j .port) p (later-others (portKey m) p n j (omega arith) (omega arith))) in
-        let t : (sameName (portOn m (p - 1) .tie) noName || any (λ c. eqb (c .port) p) (table n row)) ≡ true = rw (port-on m P B n p a b) at (all-held p a (omega arith)) in
+        (λ j h. ap (λ c. eqb (c .port) p) (getD-table n row j (row 0) (omega arith))
+        ∙ ne-eqb (row j .port) p (later-others (portKey m) p n j (omega arith) (omega arith))) in
+        let t : (sameName (portOn m (p - 1) .tie) noName || any (λ c. eqb (c .port) p) (table n row)) ≡ true =
+        rw (port-on m P B n p a b) at (all-held p a (omega arith)) in
         tie-none m (p - 1) ∙ last (sameName (portOn m (p - 1) .tie) noName) (rw none at t)
       where
         last : (x : Bool) → (x || false) ≡ true → x ≡ true
@@ -231,11 +243,13 @@ module _ (m : List ℕ) (P B n : ℕ) (some : 1 ≤ P) (four : P ≤ 4) (small :
     pub sound-passed : Passed m P B n
     unfolding sound fewExpected
     sound-passed = record {
-      ports = every-of portFits (portOn m) P (λ k h. port-fits (portOn m k) (every-on portInRange (portOn m) P ports-ranged k h) (every-on portAgrees (portOn m) P all-agree k h));
+      ports = every-of portFits (portOn m) P (λ k h. port-fits (portOn m k) (every-on portInRange (portOn m) P ports-ranged k h)
+          (every-on portAgrees (portOn m) P all-agree k h));
       fields = every-of fieldsFit row n (λ j h. range-fields P B (row j) four (every-on (carrierInRange P B) row n ranges j h));
       named = every-of namedBy row n (λ j h. range-named P B (row j) (every-on (carrierInRange P B) row n ranges j h));
       seats =
-          every-of (seatFits P B) row n (λ j h. range-seat P B (row j) (portOf s (row j .port)) (every-on (carrierInRange P B) row n ranges j h)
+          every-of (seatFits P B) row n (λ j h. range-seat P B (row j) (portOf s (row j .port))
+          (every-on (carrierInRange P B) row n ranges j h)
           (every-on placeAgrees row n all-placed j h) (every-on (λ c. openAgrees (portOf s (c .port)) c) row n all-open j h));
       spots = search (and-l, and-r) depth 12;
       alone = two-of otherPort row n port-alone;

@@ -100,7 +100,8 @@ module _ (P B : ℕ) (c : Carrier) where
       let lid : (not (isOpen c) || not (expected c)) ≡ true = search (and-l, and-r) depth 6 in
       go (leb-true (c .place) 2 place) (rw (eq-eqb (c .port) 0 z) at tied) (isOpen c) refl lid
     where
-      go : c .place ≤ 2 → (not (atPort c) || false) ≡ true → (b : Bool) → isOpen c ≡ b → (not b || not (expected c)) ≡ true → openAgrees q c ≡ true
+      go : c .place ≤ 2 → (not (atPort c) || false) ≡ true → (b : Bool) → isOpen c ≡ b → (not b || not (expected c)) ≡ true
+          → openAgrees q c ≡ true
       go low t false e l = rw e
       go low t true e l =
           let x = eqb-false (c .place) 0 (not-true (expected c) l) in
@@ -143,7 +144,8 @@ pub tie-none : (m : List ℕ) (k : ℕ) → tieFits m k 0 ≡ sameName (portOn m
 unfolding tieFits every table sameName sameList
 tie-none m k = refl
 
-pub tie-some : (m : List ℕ) (k j : ℕ) → tieFits m k (suc j) ≡ (sameName (portOn m k .tie) (recordOn m j .name) && openAgrees (portOn m k) (recordOn m j))
+pub tie-some : (m : List ℕ) (k j : ℕ) → tieFits m k (suc j)
+    ≡ (sameName (portOn m k .tie) (recordOn m j .name) && openAgrees (portOn m k) (recordOn m j))
 unfolding tieFits
 tie-some m k j =
     let e : suc j - 1 ≡ j = omega arith in
@@ -164,7 +166,8 @@ module _ (m : List ℕ) (P B n : ℕ) where
       rw (ne-eqb p 0 (λ e. omega arith)) (List·getD-eq-default (table P (portOn m)) noPort (omega arith))
 
   -- the latest that names a port is the one that does
-  pub held-by : everyTwo otherPort (table n (recordOn m)) ≡ true → (j : ℕ) → j < n → recordOn m j .port ≢ 0 → latest (portKey m) (recordOn m j .port) n ≡ suc j
+  pub held-by : everyTwo otherPort (table n (recordOn m)) ≡ true → (j : ℕ) → j < n → recordOn m j .port ≢ 0
+      → latest (portKey m) (recordOn m j .port) n ≡ suc j
   unfolding otherPort
   held-by e j h z = go (latest (portKey m) p n) refl
     where

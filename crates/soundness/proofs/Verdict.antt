@@ -46,7 +46,8 @@ module _ (m : List ℕ) where
 
   abbrev tested : Bool
   tested =
-      ((leb P 4 && leb n 36) && (every zeroPort (drop P (table 4 (portOn m))) && every zeroCarrier (drop n (table 36 (recordOn m))))) && sound read
+      ((leb P 4 && leb n 36) && (every zeroPort (drop P (table 4 (portOn m))) && every zeroCarrier (drop n (table 36 (recordOn m)))))
+      && sound read
 
   spelt : soundTool (toolFrom m) ≡ tested
   unfolding soundTool unusedZero toolFrom
@@ -77,7 +78,8 @@ module _ (m : List ℕ) where
       ties (suc (suc (suc (suc zero)))) a b = search (and-l, and-r) depth 9
       ties (suc (suc (suc (suc (suc p))))) a b = absurd (omega arith)
 
-  passed-fits : every isZero (bytesFrom m (3 + 22 * P) (88 - 22 * P)) ≡ true → every isZero (bytesFrom m (91 + 50 * n) (1800 - 50 * n)) ≡ true
+  passed-fits : every isZero (bytesFrom m (3 + 22 * P) (88 - 22 * P)) ≡ true
+      → every isZero (bytesFrom m (91 + 50 * n) (1800 - 50 * n)) ≡ true
       → Passed m P B n → fits m P B n ≡ true
   unfolding seatsFit
   passed-fits a b x =

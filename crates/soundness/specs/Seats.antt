@@ -43,7 +43,8 @@ tieFits m k a = cond (eqb a 0) (every isZero (bytesFrom m (portStart k + 3) 16))
 -- all of them
 unfoldable pub seatsFit : List ℕ → ℕ → ℕ → ℕ → Bool
 seatsFit m P B n =
-    (((every (seatFits P B) (table n (recordOn m)) && everyTwo otherSpot (table n (recordOn m))) && everyTwo otherPort (table n (recordOn m)))
+    (((every (seatFits P B) (table n (recordOn m)) && everyTwo otherSpot (table n (recordOn m)))
+    && everyTwo otherPort (table n (recordOn m)))
     && leb (howMany expected (table n (recordOn m))) 16)
     && ((tieFits m 0 (latest (portKey m) 1 n) && tieFits m 1 (latest (portKey m) 2 n))
     && (tieFits m 2 (latest (portKey m) 3 n) && tieFits m 3 (latest (portKey m) 4 n)))

@@ -9,4 +9,7 @@ carrier-from-spec =
     (λ c. search needs) (λ c. search needs) (λ c. search needs) (λ c. search needs) (λ c. search needs) (λ c. search needs)
     (λ c. search needs) (λ c. search needs) (λ c. search needs) (λ c. search needs) (λ c. search needs) (λ c. search needs)
     (λ c. search needs) (λ c. search needs) (λ c. search needs)
-    (λ c. rw (c .before .before .before .before .before .before .before .before .before .map-from .ensures, c .before .before .before .before .before .before .before .before .before .before .name-from .ensures)))
+    (λ c. rw (
+      c .before .before .before .before .before .before .before .before .before .map-from .ensures,
+      c .before .before .before .before .before .before .before .before .before .before .name-from .ensures,
+    )))

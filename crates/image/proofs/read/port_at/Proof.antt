@@ -28,4 +28,5 @@ returns-2 c =
     c .none .ensures ∙ sym (List·getD-eq-default (table 4 (row s)) noPort (omega (arith, c .before .before .spot-of .ensures)))
 
 pub port-at-spec : {M : Type 1} → statement M
-port-at-spec = tie.close (tie.spec (λ c κs. tt) (λ c. search needs) (λ c. search needs) (λ c κs. omega arith) (λ c κs. tt) returns returns-2)
+port-at-spec = tie.close (tie.spec (λ c κs. tt) (λ c. search needs) (λ c. search needs) (λ c κs. omega arith)
+    (λ c κs. tt) returns returns-2)

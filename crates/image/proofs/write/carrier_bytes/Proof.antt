@@ -17,7 +17,11 @@ put-requires : tie.Need-put-requires
 put-requires c κs = omega (arith, name-long (c .before .before .before .before .before))
 
 put-requires-2 : tie.Need-put-requires-2
-put-requires-2 c κs = omega (arith, map-long (c .before .before .before .before .before .before .before .before .before), c .before .before .before .put .kept .0)
+put-requires-2 c κs = omega (
+  arith,
+  map-long (c .before .before .before .before .before .before .before .before .before),
+  c .before .before .before .put .kept .0,
+)
 
 returns : tie.Need-returns
 unfolding carrierBytes
@@ -31,6 +35,7 @@ returns c =
 pub carrier-bytes-spec : {M : Type 1} → statement M
 carrier-bytes-spec =
     tie.close
-    (tie.spec (λ c. search needs) (λ c. search needs) put-requires (λ c. search needs) (λ c. search needs) put-requires-2 (λ c. search needs)
+    (tie.spec (λ c. search needs) (λ c. search needs) put-requires (λ c. search needs) (λ c. search needs) put-requires-2
+    (λ c. search needs)
     (λ c. search needs) (λ c. search needs) (λ c. search needs) (λ c. search needs) (λ c. search needs) (λ c. search needs)
     (λ c. search needs) (λ c. search needs) returns)

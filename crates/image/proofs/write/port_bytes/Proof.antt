@@ -10,7 +10,8 @@ use Rattle.image.proofs.write.port_bytes.Tie as tie
 put-requires : tie.Need-put-requires
 put-requires c κs =
     let s = c .before .before .before .before in
-    let n : length (s .args .q .tie .bytes) ≡ 16 = sym (length-map (s .args .q .tie .bytes) _) ∙ s .good .0 .1 .1 .1 .1 .1 .0 .1 .1 .0 .1 .0 .1 in
+    let n : length (s .args .q .tie .bytes) ≡ 16 = sym (length-map (s .args .q .tie .bytes) _)
+    ∙ s .good .0 .1 .1 .1 .1 .1 .0 .1 .1 .0 .1 .0 .1 in
     omega (arith, n)
 
 returns : tie.Need-returns

@@ -18,8 +18,11 @@ abbrev μ-loop : tie.MeasureT-loop
 loop-again : tie.Need-loop-again Inv-loop μ-loop
 loop-again c =
     let b = c .before .before in
-    let a = b .before .args in
-    (omega arith, simp length-set (b .loop .inv .1), rw (b .loop .inv .2) (writes (a .m .now) (a .o) (a .b .now) (b .loop .i) 0 (omega arith)))
+    let a = b .before .args in (
+      omega arith,
+      simp length-set (b .loop .inv .1),
+      rw (b .loop .inv .2) (writes (a .m .now) (a .o) (a .b .now) (b .loop .i) 0 (omega arith)),
+    )
 
 returns : tie.Need-returns Inv-loop μ-loop
 returns c =

@@ -31,4 +31,5 @@ returns c =
     rw z at (c .before .loop .inv .1)
 
 pub zeros-spec : {M : Type 1} → statement M
-zeros-spec = tie.close (tie.spec Inv-loop μ-loop loop-holds (λ c. omega arith) (λ c. omega arith) (λ c. omega arith) (λ c. omega arith) loop-again returns)
+zeros-spec = tie.close (tie.spec Inv-loop μ-loop loop-holds (λ c. omega arith) (λ c. omega arith) (λ c. omega arith)
+    (λ c. omega arith) loop-again returns)

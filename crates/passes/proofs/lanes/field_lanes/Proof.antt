@@ -19,7 +19,8 @@ next good m o least most j = getD good j false && between (getD least j 0) (byte
 
 -- the lanes that are passed are new
 abbrev Inv-loop : tie.InvT-loop
-Inv-loop good₀ m o least most i₀ good i = (i ≤ 32) × (length good ≡ 32) × (good ≡ table 32 (partly (was good₀) (next good₀ m o least most) i))
+Inv-loop good₀ m o least most i₀ good i = (i ≤ 32) × (length good ≡ 32)
+    × (good ≡ table 32 (partly (was good₀) (next good₀ m o least most) i))
 
 abbrev μ-loop : tie.MeasureT-loop
 μ-loop good₀ m o least most i₀ good i = 32 - i
@@ -46,7 +47,8 @@ returns : tie.Need-returns Inv-loop μ-loop
 returns c =
     let a = c .before .before .args in
     let z : c .before .loop .i ≡ 32 = omega arith in
-    rw z at (c .before .loop .inv .2) ∙ all-new (was (a .good .now)) (next (a .good .now) (a .m .now) (a .o) (a .least .now) (a .most .now)) 32
+    rw z at (c .before .loop .inv .2) ∙ all-new (was (a .good .now))
+    (next (a .good .now) (a .m .now) (a .o) (a .least .now) (a .most .now)) 32
 
 pub field-lanes-spec : {M : Type 1} → statement M
 field-lanes-spec =

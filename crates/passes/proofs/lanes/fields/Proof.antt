@@ -34,7 +34,8 @@ loop-again : tie.Need-loop-again Inv-loop μ-loop
 loop-again c =
     let b = c .before .before .before .before .before .before in
     let P = lane (b .before .args .m .now) leasts mosts in
-    let e : c .before .field-lanes .last .0 ≡ lanes P 32 (b .loop .k + 1) = c .before .field-lanes .ensures ∙ rw (b .loop .inv .3) (lanes-more P 32 (b .loop .k)) in
+    let e : c .before .field-lanes .last .0 ≡ lanes P 32 (b .loop .k + 1) = c .before .field-lanes .ensures
+    ∙ rw (b .loop .inv .3) (lanes-more P 32 (b .loop .k)) in
     (omega arith, omega arith, ap length e ∙ length-table 32 _, e)
 
 returns : tie.Need-returns Inv-loop μ-loop
@@ -43,7 +44,8 @@ returns c =
     let a = b .before .args in
     let m = a .m .now in
     let z : b .loop .k ≡ a .n = omega arith in
-    c .all .ensures ∙ ap (every itself) (rw z at (b .loop .inv .3)) ∙ lanes-all (lane m leasts mosts) 32 (a .n) fieldsFit (recordOn m) (λ k h. field-tests m k)
+    c .all .ensures ∙ ap (every itself) (rw z at (b .loop .inv .3))
+    ∙ lanes-all (lane m leasts mosts) 32 (a .n) fieldsFit (recordOn m) (λ k h. field-tests m k)
 
 pub fields-spec : {M : Type 1} → statement M
 fields-spec =

@@ -19,7 +19,8 @@ next good m o first last j = getD good j false && nameLane (getD first j 0) (get
 
 -- the lanes that are passed are new
 abbrev Inv-loop : tie.InvT-loop
-Inv-loop good₀ m o first last i₀ good i = (i ≤ 16) × (length good ≡ 16) × (good ≡ table 16 (partly (was good₀) (next good₀ m o first last) i))
+Inv-loop good₀ m o first last i₀ good i = (i ≤ 16) × (length good ≡ 16)
+    × (good ≡ table 16 (partly (was good₀) (next good₀ m o first last) i))
 
 abbrev μ-loop : tie.MeasureT-loop
 μ-loop good₀ m o first last i₀ good i = 16 - i
@@ -46,7 +47,8 @@ returns : tie.Need-returns Inv-loop μ-loop
 returns c =
     let a = c .before .before .args in
     let z : c .before .loop .i ≡ 16 = omega arith in
-    rw z at (c .before .loop .inv .2) ∙ all-new (was (a .good .now)) (next (a .good .now) (a .m .now) (a .o) (a .first .now) (a .last .now)) 16
+    rw z at (c .before .loop .inv .2) ∙ all-new (was (a .good .now))
+    (next (a .good .now) (a .m .now) (a .o) (a .first .now) (a .last .now)) 16
 
 pub name-lanes-spec : {M : Type 1} → statement M
 name-lanes-spec =

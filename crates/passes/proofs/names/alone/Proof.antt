@@ -59,7 +59,8 @@ returns c =
     let b = c .before in
     let a = b .before .before .before .args in
     let m = a .m .now in
-    stopped (λ c. otherName c (recordOn m (a .k))) (recordOn m) (b .loop .ok) (b .loop .j) (a .n) (omega arith) (b .loop .inv .3) (c .loop-test .left)
+    stopped (λ c. otherName c (recordOn m (a .k))) (recordOn m) (b .loop .ok) (b .loop .j) (a .n) (omega arith) (b .loop .inv .3)
+    (c .loop-test .left)
 
 pub alone-spec : {M : Type 1} → statement M
 alone-spec =

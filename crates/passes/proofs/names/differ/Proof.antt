@@ -39,7 +39,8 @@ before-is c =
     let m = b .before .args .m .now in
     let k = b .loop .k in
     c .wide .ensures ∙ ap (λ l. getD l (c .before .mark .result) 0) (b .loop .inv .2)
-    ∙ getD-table 1024 (λ v. latest (markKey m) v k) (c .before .mark .result) 0 (omega arith) ∙ ap (λ v. latest (markKey m) v k) (c .before .mark .ensures .0)
+    ∙ getD-table 1024 (λ v. latest (markKey m) v k) (c .before .mark .result) 0 (omega arith)
+    ∙ ap (λ v. latest (markKey m) v k) (c .before .mark .ensures .0)
 
 alone-requires : tie.Need-alone-requires Inv-loop μ-loop
 alone-requires c κs =

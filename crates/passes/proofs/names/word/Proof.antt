@@ -1,6 +1,4 @@
-use borrow.Author.Needs.{needs}
 use native.Mathlib.Omega.{arith}
-use mathlib.Core.Path.{_≡_, ap₂, _∙_}
 use Rattle.passes.proofs.Marks.{halves, small-halves}
 use Rattle.passes.proofs.names.word.Statement.{statement}
 use Rattle.passes.proofs.names.word.Tie as tie
@@ -13,4 +11,5 @@ returns c =
     (rw (high .0, low .0) (halves (a .m .now) (a .o)), small-halves (a .m .now) (a .o) (low .1 .1) (high .1 .1))
 
 pub word-spec : {M : Type 1} → statement M
-word-spec = tie.close (tie.spec (λ c κs. omega arith) (λ c. omega arith) (λ c κs. omega arith) (λ c. omega arith) (λ c. omega arith) returns)
+word-spec = tie.close (tie.spec (λ c κs. omega arith) (λ c. omega arith) (λ c κs. omega arith) (λ c. omega arith)
+    (λ c. omega arith) returns)
