@@ -9,7 +9,7 @@ use lib.ListN.{getD, set, replicate}
 use lib.Dec.{ltb}
 use borrow.Author.Tests.{lt-ltb, le-ltb, ltb-true, ltb-false}
 use Rattle.lists.specs.Lists.{every}
-use Rattle.lists.proofs.Bools.{same-test}
+use Rattle.lists.proofs.Bools.{and-comm, same-test}
 use Rattle.image.specs.Image.{table}
 use Rattle.image.proofs.Table.{getD-table, table-same, table-set}
 use Rattle.passes.specs.Passes.{itself}
@@ -47,14 +47,8 @@ module _ (P : ℕ → ℕ → Bool) where
   lanes-none w = table-none w true
 
   pub lanes-more : (w k : ℕ) → table w (λ i. getD (lanes w k) i false && P i k) ≡ lanes w (k + 1)
-  lanes-more w k = table-same w _ _ (λ i h. ap (λ b. b && P i k) (getD-table w _ i false h) ∙ flip _ (P i k)
-      ∙ sym (every-next (P i) (λ k. k) k))
-    where
-      flip : (a b : Bool) → (a && b) ≡ (b && a)
-      flip true true = refl
-      flip true false = refl
-      flip false true = refl
-      flip false false = refl
+  lanes-more w k =
+      table-same w _ _ (λ i h. ap (λ b. b && P i k) (getD-table w _ i false h) ∙ and-comm _ (P i k) ∙ sym (every-next (P i) (λ k. k) k))
 
   -- every lane of every record is every record in every lane
   pub lanes-all : {A : Type 0} (w n : ℕ) (F : A → Bool) (f : ℕ → A) → ((k : ℕ) → k < n → every itself (table w (λ i. P i k)) ≡ F (f k))

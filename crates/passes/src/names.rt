@@ -28,7 +28,7 @@ fn word(m: &[u8; 1891], o: usize) -> u64
     half(m, o) + 4294967296 * half(m, o + 4)
 }
 
-// The mark of the name at o: another one for a name that differs in one byte, or in two by less than 14 each.
+// The mark of the name at o. 907 and 36: names that differ in one byte, or in two by less than 14 each, leave different marks.
 fn mark(m: &[u8; 1891], o: usize) -> usize
     requires { ⌜ o + 16 ≤ 1891 ⌝ }
     ensures { λ r. ⌜ r ≡ mark (now (m .entry)) o ⌝ }

@@ -29,6 +29,7 @@ seatFits P B c = ((((leb (c .place) 2 && spotInRange B c) && leb (c .port) P) &&
 unfoldable pub otherPort : Carrier → Carrier → Bool
 otherPort a b = eqb (a .port) 0 || not (eqb (a .port) (b .port))
 
+-- under what a record leaves its position
 abbrev pub portKey : List ℕ → ℕ → ℕ
 portKey m k = byteAt m (carrierStart k + 18)
 
@@ -40,7 +41,7 @@ unfoldable pub tieFits : List ℕ → ℕ → ℕ → Bool
 tieFits m k a = cond (eqb a 0) (every isZero (bytesFrom m (portStart k + 3) 16))
     (sameName (portOn m k .tie) (recordOn m (a - 1) .name) && openAgrees (portOn m k) (recordOn m (a - 1)))
 
--- all of them
+-- every seat, every two of them, how many are expected, and the four ties
 unfoldable pub seatsFit : List ℕ → ℕ → ℕ → ℕ → Bool
 seatsFit m P B n =
     (((every (seatFits P B) (table n (recordOn m)) && everyTwo otherSpot (table n (recordOn m)))
