@@ -1,10 +1,11 @@
 -- What the code puts together is what is to be answered.
 use Prim.Native.Nat.{ℕ}
-use mathlib.Core.Path.{_≡_, refl, sym, _∙_}
+use mathlib.Core.Path.{_≡_, sym, _∙_}
 use mathlib.Core.Bool.{true}
 use mathlib.Core.List.{List}
 use borrow.Author.Tests.{ne-eqb}
 use Rattle.rules.specs.declared.tool.Tool.{Tool}
+use Rattle.rules.specs.declared.row.Seen.{Seen}
 use Rattle.rules.specs.declared.row.Effect.{Effect}
 use Rattle.rules.specs.declared.report.Report.{Report}
 use Rattle.rules.specs.State.{State, stateOf, portAt, recordAt}
@@ -25,9 +26,9 @@ use Rattle.parts.proofs.Notes.{all-noted}
 use Rattle.machine.proofs.Differ.{differences-touched}
 
 -- what a row sees doesn't depend on the input's number
-pub see-number : (s : State) (n p v : ℕ) (a b : List ℕ) → see s (inputOf 0 p v a b) ≡ see s (inputOf n p v a b)
+pub see-number : (s : State) (n p v : ℕ) (a b : List ℕ) (x : Seen) → x ≡ see s (inputOf 0 p v a b) → x ≡ see s (inputOf n p v a b)
 unfolding see
-see-number s n p v a b = refl
+see-number s n p v a b x e = e
 
 abbrev pub toldBy : Tool → Effect → List Report
 toldBy t e = touched (portAt t (e .port)) (recordAt t (e .goes)) (recordAt t (e .changes)) e

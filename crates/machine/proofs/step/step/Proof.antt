@@ -1,6 +1,8 @@
+use Prim.Native.Nat.{ℕ}
 use mathlib.Core.Path.{_≡_, sym, ap, _∙_}
 use mathlib.Core.Bool.{true, false}
 use Rattle.rules.specs.declared.tool.Tool.{Tool}
+use Rattle.rules.specs.declared.report.Reports.{Reports}
 use Rattle.rules.specs.Sound.{soundTool}
 use Rattle.rules.specs.Seen.{Input, inputOf}
 use Rattle.rules.specs.Outcome.{refused, outcomeIn, outcome}
@@ -15,9 +17,11 @@ abbrev input : tie.Start → Input
 input s = inputOf (s .args .number) (s .args .port) (s .args .value) (s .args .name .now) (s .args .codes .now)
 
 -- a sound tool and another
-when-sound : (t : Tool) (i : Input) → soundTool t ≡ true → outcomeIn t i ≡ outcome t i
+when-sound : (t : Tool) (i : Input) → soundTool t ≡ true → (u : Tool) (l : Reports) (a : ℕ)
+    → u ≡ outcomeIn t i .tool → l ≡ outcomeIn t i .reports → a ≡ outcomeIn t i .answer
+    → (u ≡ outcome t i .tool) × ((l ≡ outcome t i .reports) × (a ≡ outcome t i .answer))
 unfolding outcome
-when-sound t i h = rw h
+when-sound t i h u l a x y z = rw h (x, (y, z))
 
 when-not : (t : Tool) (i : Input) → soundTool t ≡ false → refused t 1 ≡ outcome t i
 unfolding outcome
@@ -30,9 +34,9 @@ returns : tie.Need-returns
 returns c =
     let u = c .before .before .before .before in
     let s = u .before .before .before .before in
-    let o = when-sound (tool s) (input s) (sym (u .sound .ensures) ∙ c .before .before .before .if1 .taken) in
+    let h = sym (u .sound .ensures) ∙ c .before .before .before .if1 .taken in
     let e = c .step-sound .ensures in
-    (e .0 ∙ ap (λ x. x .tool) o, (e .1 .0 ∙ ap (λ x. x .reports) o, e .1 .1 ∙ ap (λ x. x .answer) o))
+    when-sound (tool s) (input s) h _ _ _ (e .0) (e .1 .0) (e .1 .1)
 
 returns-2 : tie.Need-returns-2
 returns-2 c =

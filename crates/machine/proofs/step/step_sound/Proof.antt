@@ -38,8 +38,7 @@ input s = inputOf (s .args .number) (s .args .port) (s .args .value) (s .args .n
 seen : (c : tie.After-look) → let s = c .before .before .before .before in c .look .result ≡ see (stateOf (tool s)) (input s)
 seen c =
     let a = c .before .before .before .before .args in
-    c .look .ensures
-    ∙ see-number (stateOf (toolFrom (a .m .now))) (a .number) (a .port) (a .value) (a .name .now) (a .codes .now)
+    see-number (stateOf (toolFrom (a .m .now))) (a .number) (a .port) (a .value) (a .name .now) (a .codes .now) _ (c .look .ensures)
 
 answer : (c : tie.After-answer-of)
     → let s = c .before .before .before .before .before in c .answer-of .result ≡ judge (rowIn (stateOf (tool s)) (input s) .grounds)
