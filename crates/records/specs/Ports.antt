@@ -1,5 +1,4 @@
 -- A port, and the port that follows.
-use Prim.Native.Nat.{ℕ}
 use mathlib.Core.Bool.{Bool}
 use lib.Dec.{eqb}
 use Rattle.records.specs.Names.{noName}
