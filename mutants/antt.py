@@ -1,4 +1,4 @@
-"""What an antt file declares: its records, the types of its definitions, and the tokens right of each equation's `=`."""
+"""What an antt file declares: its records, its definitions' types, and the tokens right of each equation's `=`."""
 
 from dataclasses import dataclass, field
 

@@ -48,8 +48,11 @@ class Body:
 
     def two_sided(self, i):
         """A sign with an operand on its left; `&b` and `-1` have none."""
-        before = self.toks[i - 1] if i else None
-        return before is not None and (before.kind == "number" or before.text in ")]" or (before.kind == "word" and before.text not in KEYWORDS))
+        if i == 0:
+            return False
+        before = self.toks[i - 1]
+        is_name = before.kind == "word" and before.text not in KEYWORDS
+        return is_name or before.kind == "number" or before.text in ")]"
 
     def at_sign(self, i, tok):
         if tok.text in SIGNS and self.two_sided(i):

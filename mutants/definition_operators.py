@@ -36,7 +36,8 @@ class Right:
         self.file, self.lines, self.toks = file, lines, equation.right
         self.uses, self.records, self.definitions = module.uses, records, {**types, **module.types, **KNOWN}
         kinds = module.types.get(equation.name, [])
-        self.types = {tok.text: kind for tok, kind in zip(equation.left, kinds)} if len(equation.left) < len(kinds) else {}
+        known = len(equation.left) < len(kinds)
+        self.types = {tok.text: kind for tok, kind in zip(equation.left, kinds)} if known else {}
 
     def mutants(self):
         for i, tok in enumerate(self.toks):
@@ -53,7 +54,7 @@ class Right:
         return Mutant(self.file, tok.line, tok.column, old, new, kind, needs)
 
     def taken(self, module, name):
-        """What the changed file has to take from a module: nothing, or a name more; None where it takes none from there."""
+        """What has to be taken from a module: nothing, or a name more; None where the file takes none from there."""
         if any(name in names for names in self.uses.values()):
             return ""
         return f"{module}:{name}" if module in self.uses else None
@@ -107,7 +108,7 @@ class Right:
                 yield self.change(self.toks[i], "." + name, "." + other, "field")
 
     def kind_before(self, i):
-        """The type of what a field is taken of: a variable, a field of one, a call; else the one record that has the field."""
+        """The type of what a field is taken of: a variable, a field of one, a call; else the one record that has it."""
         before = self.toks[i - 1]
         if before.kind == "field":
             return dict(self.records.get(self.kind_before(i - 1), [])).get(before.text[1:])

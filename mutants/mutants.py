@@ -1,5 +1,5 @@
 #!/usr/bin/env python3
-"""Changes one operator, constant or condition at a time in the code and in the definitions, checks, and says what noticed.
+"""Changes one operator, constant or condition at a time in the code and the definitions, checks, and says what noticed.
 
   mutants.py list [--all]     the sample as one-line diffs (--all: every mutant), checking nothing
   mutants.py run              try the sample; --resume takes up a run that was stopped
@@ -40,7 +40,8 @@ def arguments():
     parser.add_argument("--jobs", type=int, default=1, metavar="N", help="workers, each with its own copy (1)")
     parser.add_argument("--limit", type=int, default=600, metavar="S", help="seconds for a check (600)")
     parser.add_argument("--inputs", type=int, default=100000, metavar="N", help="inputs of a comparison (100000)")
-    parser.add_argument("--work", default=os.path.join(REPO, "target", "mutants"), help="copies and log (target/mutants)")
+    work = os.path.join(REPO, "target", "mutants")
+    parser.add_argument("--work", default=work, help="copies and log (target/mutants)")
     return parser.parse_intermixed_args()
 
 
@@ -93,7 +94,8 @@ class Run:
             counted += result["verdict"] != "uncompiled"
 
     def try_and_log(self, scratch, mutant):
-        name = "".join(c if c.isalnum() else "-" for c in f"{mutant.file}-{mutant.line}-{mutant.column}-{mutant.new}")[:120]
+        text = f"{mutant.file}-{mutant.line}-{mutant.column}-{mutant.new}"
+        name = "".join(c if c.isalnum() else "-" for c in text)[:120]
         log = os.path.join(self.options.work, "said", name + ".txt")
         result = try_mutant(scratch, self.sources, mutant, log, self.options.inputs)
         with self.lock:

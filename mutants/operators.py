@@ -74,7 +74,7 @@ def text_between(lines, first, last):
 
 
 def swapped(lines, left, right):
-    """Two lists of tokens of one line, and the same text with the two in each other's place; nothing if that's no change."""
+    """Two lists of tokens of one line, and the text with the two in each other's place; nothing if that's no change."""
     a, b = text_between(lines, left[0], left[-1]), text_between(lines, right[0], right[-1])
     whole = text_between(lines, left[0], right[-1])
     if whole is None or a is None or b is None or a == b:

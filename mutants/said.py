@@ -39,7 +39,8 @@ class Said:
 
 def heard(status, text, root):
     """Reads what `rt dev` printed, and how it ended. Text that is refused as text, before any proof, is uncompiled."""
-    ends = re.findall(r"^logic=(proved|not-proved)", text, re.MULTILINE)  # crates below may stand before; the last is its own
+    # Crates below may stand before; the last is its own.
+    ends = re.findall(r"^logic=(proved|not-proved)", text, re.MULTILINE)
     if status == 0 and ends[-1:] == ["proved"]:
         return Said("proved")
     if status == 0 or BELOW in text:

@@ -91,4 +91,8 @@ def shares(mutants, total, least):
     for mutant in mutants:
         lines.setdefault(mutant.crate, set()).add((mutant.file, mutant.line))
     whole = sum(len(found) for found in lines.values())
-    return {crate: min(max(least, -(-total * len(found) // whole)), len(found)) for crate, found in sorted(lines.items())}
+    given = {}
+    for crate, found in sorted(lines.items()):
+        share = -(-total * len(found) // whole)
+        given[crate] = min(max(least, share), len(found))
+    return given

@@ -43,10 +43,11 @@ class Scratch:
         atexit.register(self.stop)
 
     def prepare(self, say):
-        """Copies the repository with what is proved of it, and sees that each crate is proved before anything is changed."""
+        """Copies the repository with what is proved of it, and sees that each crate is proved before any change."""
         shutil.rmtree(self.root, ignore_errors=True)
         shutil.rmtree(self.pristine, ignore_errors=True)
-        shutil.copytree(self.repo, self.root, ignore=lambda folder, names: {"target", ".git", "__pycache__"} & set(names))
+        left_out = {"target", ".git", "__pycache__"}
+        shutil.copytree(self.repo, self.root, ignore=lambda folder, names: left_out & set(names))
         for part in KEPT:
             source = os.path.join(self.repo, "target", part)
             if os.path.isdir(source):
@@ -67,7 +68,8 @@ class Scratch:
         with open(os.path.join(self.root, mutant.file), "w", encoding="utf-8") as file:
             file.write(text)
         if self.lean:
-            put_back(os.path.join(self.repo, "crates", self.lean, "proofs"), os.path.join(self.root, "crates", self.lean, "proofs"))
+            proofs = os.path.join("crates", self.lean, "proofs")
+            put_back(os.path.join(self.repo, proofs), os.path.join(self.root, proofs))
         for crate in self.touched:
             for name in (f"rlib/{crate}.rlib", f"stamp/{crate}", f"inc/{crate}"):
                 put_back(os.path.join(self.pristine, name), os.path.join(self.root, "target", name))
@@ -78,18 +80,20 @@ class Scratch:
         return Said("unclear") if status is None else heard(status, text, self.root)
 
     def leave_out_theorems(self, crate, refused):
-        """Takes away the theorems of a crate that no crate above cites, so that those can be asked; not if one that is cited
-        is refused itself."""
+        """Takes away the theorems of a crate that no crate above cites, so that those can be asked;
+        not if one that is cited is refused itself."""
         folder = os.path.join(self.root, "crates", crate, "proofs")
-        names = [name.removesuffix(".antt") for name in os.listdir(folder) if name.endswith(".antt") and name != "Lib.antt"]
+        files = [name for name in os.listdir(folder) if name.endswith(".antt") and name != "Lib.antt"]
+        names = [name.removesuffix(".antt") for name in files]
         cited = cited_theorems(self.root, crate, self.above)
         if cited & refused or not set(names) - cited:
             return False
         self.lean = crate
         for name in set(names) - cited:
             os.remove(os.path.join(folder, name + ".antt"))
-        kept = [line for line in lines_of(os.path.join(folder, "Lib.antt")) if line.split()[-1:] and line.split()[-1] in cited]
-        with open(os.path.join(folder, "Lib.antt"), "w", encoding="utf-8") as file:
+        lib = os.path.join(folder, "Lib.antt")
+        kept = [line for line in lines_of(lib) if line.split()[-1:] and line.split()[-1] in cited]
+        with open(lib, "w", encoding="utf-8") as file:
             file.write("".join(line + "\n" for line in kept))
         return True
 

@@ -10,8 +10,8 @@ CODE = "the code's proofs"
 # How a reason begins where a theorem is refused that still holds: its proof names the text that was changed.
 TEXT = "by its text:"
 # What could not be shown of a function; safety: an index, a sum or a cast in its range.
-NEEDED = ["what it ensures", "its loop's invariant", "that it ends", "what a callee requires", "safety", "a lemma of its proof",
-          "a form that is not covered"]
+NEEDED = ["what it ensures", "its loop's invariant", "that it ends", "what a callee requires", "safety",
+          "a lemma of its proof", "a form that is not covered"]
 NUMBER = re.compile(r"^(\S+?):\d+: ")
 
 
@@ -28,7 +28,8 @@ def tables(log, explained, every):
     definition_table(definitions)
     kind_table(code, definitions)
     left = listed("Accepted", [result for result in results if result["verdict"] == "accepted"])
-    left += listed("Refused for a proof's text alone", [result for result in results if result["verdict"] == "refused" and result["why"].startswith(TEXT)])
+    by_text = [result for result in results if result["verdict"] == "refused" and result["why"].startswith(TEXT)]
+    left += listed("Refused for a proof's text alone", by_text)
     left += listed("No verdict", [result for result in results if result["verdict"] == "unclear"])
     if every:
         all_of_them(results)
@@ -78,28 +79,30 @@ def head(*cells):
 
 
 def code_table(code):
-    head("Code of", "Mutants", "Refused by the prover", *(f"for {need}" for need in NEEDED), "Accepted: equal", "Accepted: unexplained",
-         "No verdict", "Did not compile", "Seconds each")
+    head("Code of", "Mutants", "Refused by the prover", *(f"for {need}" for need in NEEDED), "Accepted: equal",
+         "Accepted: unexplained", "No verdict", "Did not compile", "Seconds each")
     for crate in [*crates(code), "all"]:
         mine = [result for result in code if crate in ("all", result["crate"])]
         accepted = [result for result in mine if result["verdict"] == "accepted"]
         equal = sum(bool(result["why"]) and not result["noticed"] for result in accepted)
         needs = [sum(result.get("need", "").startswith(need) for result in mine) for need in NEEDED]
-        row(crate, len(counted(mine)), count(mine, verdict="refused"), *needs, equal, len(accepted) - equal, count(mine, verdict="unclear"),
-            count(mine, verdict="uncompiled"), seconds(mine))
+        row(crate, len(counted(mine)), count(mine, verdict="refused"), *needs, equal, len(accepted) - equal,
+            count(mine, verdict="unclear"), count(mine, verdict="uncompiled"), seconds(mine))
 
 
 def definition_table(definitions):
     """A mutant stands in each column of what refused it."""
-    head("Definitions of", "Mutants", *(f"Refused by {name}" for name in [*THEOREMS, CODE]), "For a proof's text alone", "Accepted: explained",
-         "Accepted: unexplained", "No verdict", "Did not compile", "Seconds each")
+    names = [*THEOREMS, CODE]
+    head("Definitions of", "Mutants", *(f"Refused by {name}" for name in names), "For a proof's text alone",
+         "Accepted: explained", "Accepted: unexplained", "No verdict", "Did not compile", "Seconds each")
     for crate in [*crates(definitions), "all"]:
         mine = [result for result in definitions if crate in ("all", result["crate"])]
         accepted = [result for result in mine if result["verdict"] == "accepted"]
         explained = sum(bool(result["why"]) for result in accepted)
         text = sum(result["verdict"] == "refused" and result["why"].startswith(TEXT) for result in mine)
-        row(crate, len(counted(mine)), *(sum(name in result["noticed"] for result in mine) for name in [*THEOREMS, CODE]), text, explained,
-            len(accepted) - explained, count(mine, verdict="unclear"), count(mine, verdict="uncompiled"), seconds(mine))
+        refused = [sum(name in result["noticed"] for result in mine) for name in names]
+        row(crate, len(counted(mine)), *refused, text, explained, len(accepted) - explained,
+            count(mine, verdict="unclear"), count(mine, verdict="uncompiled"), seconds(mine))
 
 
 def kind_table(code, definitions):
@@ -130,8 +133,11 @@ def listed(title, results):
 def all_of_them(results):
     head("Mutant", "Verdict", "Noticed by", "What could not be shown, and where first")
     for result in results:
-        first = ", ".join(filter(None, [result.get("need") if result["layer"] == "code" else "", *result.get("functions", [])[:1], result["first"][:120]]))
-        row(f"`{result['diff']}`".replace("|", "\\|"), result["verdict"], ", ".join(result["noticed"]), first.replace("|", "\\|"))
+        need = result.get("need") if result["layer"] == "code" else ""
+        words = [need, *result.get("functions", [])[:1], result["first"][:120]]
+        first = ", ".join(filter(None, words)).replace("|", "\\|")
+        diff = f"`{result['diff']}`".replace("|", "\\|")
+        row(diff, result["verdict"], ", ".join(result["noticed"]), first)
 
 
 def summary(code, definitions):
@@ -140,4 +146,5 @@ def summary(code, definitions):
     equal = sum(result["verdict"] == "accepted" and bool(result["why"]) and not result["noticed"] for result in code)
     explained = sum(result["verdict"] == "accepted" and bool(result["why"]) for result in definitions)
     return (f"\ncode: {len(counted(code))} mutants, {count(code, verdict='refused')} refused, {equal} equal; "
-            f"definitions: {len(counted(definitions))} mutants, {theorems} by the promises, {proofs} by the code's proofs, {explained} explained")
+            f"definitions: {len(counted(definitions))} mutants, {theorems} by the promises, "
+            f"{proofs} by the code's proofs, {explained} explained")

@@ -51,13 +51,15 @@ def code_mutants():
     module = rattle.read(CODE)
     functions = {function.name: function.params for function in module.functions}
     lines = CODE.split("\n")
-    return [m for f in module.functions for m in Body("crates/c/src/lib.rt", lines, f, module.structs, functions).mutants()]
+    bodies = [Body("crates/c/src/lib.rt", lines, f, module.structs, functions) for f in module.functions]
+    return [m for body in bodies for m in body.mutants()]
 
 
 def definition_mutants():
     module = antt.read(DEFINITIONS)
     lines = DEFINITIONS.split("\n")
-    return [m for e in module.equations for m in Right("crates/c/specs/C.antt", lines, e, module, module.records, {}).mutants()]
+    rights = [Right("crates/c/specs/C.antt", lines, e, module, module.records, {}) for e in module.equations]
+    return [m for right in rights for m in right.mutants()]
 
 
 class Changes(unittest.TestCase):
@@ -67,7 +69,8 @@ class Changes(unittest.TestCase):
             {
                 (8, "<", "<="), (8, "a < b", "!(a < b)"),
                 (15, "p.open", "!p.open"), (15, "&", "|"), (15, "!=", "=="), (15, "!", ""), (15, "here", "there"),
-                (15, "c.here, 0x0F", "0x0F, c.here"), (15, "0x0F", "0x10"), (15, "0x0F", "0x0E"), (15, "3", "4"), (15, "3", "2"),
+                (15, "c.here, 0x0F", "0x0F, c.here"), (15, "0x0F", "0x10"), (15, "0x0F", "0x0E"),
+                (15, "3", "4"), (15, "3", "2"),
             },
         )
 
@@ -75,9 +78,10 @@ class Changes(unittest.TestCase):
         self.assertEqual(
             {(m.line, m.old, m.new) for m in definition_mutants()},
             {
-                (11, "eqb", "leb"), (11, "eqb (p .here) 3", "not (eqb (p .here) 3)"), (11, ".here", ".there"), (11, "3", "4"), (11, "3", "2"),
-                (12, "&&", "||"), (12, "leb", "ltb"), (12, "leb", "eqb"), (12, "leb 1 n", "not (leb 1 n)"), (12, "1", "2"), (12, "1", "0"),
-                (12, "1 n", "n 1"),
+                (11, "eqb", "leb"), (11, "eqb (p .here) 3", "not (eqb (p .here) 3)"), (11, ".here", ".there"),
+                (11, "3", "4"), (11, "3", "2"),
+                (12, "&&", "||"), (12, "leb", "ltb"), (12, "leb", "eqb"), (12, "leb 1 n", "not (leb 1 n)"),
+                (12, "1", "2"), (12, "1", "0"), (12, "1 n", "n 1"),
             },
         )
 
@@ -100,7 +104,9 @@ class Words(unittest.TestCase):
         text = (
             "/r/crates/rules/proofs/Earned.antt:9:1: error: `told`: `trail` was not admitted (it has holes or so), so\n"
             "/r/crates/rules/proofs/TwelveRows.antt:22:15: error: `twelve-rows`: expected\n"
-            "fn rules::a: not proved\nfn rules::b: not proved; it calls `rules::a`, which is not proved\nlogic=not-proved\n"
+            "fn rules::a: not proved\n"
+            "fn rules::b: not proved; it calls `rules::a`, which is not proved\n"
+            "logic=not-proved\n"
         )
         said = heard(1, text, "/r")
         self.assertEqual((said.verdict, said.functions), ("refused", ["rules::a"]))
@@ -108,19 +114,24 @@ class Words(unittest.TestCase):
         self.assertEqual(noticed_by("rules", said, {"rows"}), ["the twelve rows"])
 
     def test_text_that_is_no_code_is_uncompiled(self):
-        self.assertEqual(heard(1, "/r/crates/c/src/a.rt:1:2: error[unknown-name]: cannot find\n", "/r").verdict, "uncompiled")
-        self.assertEqual(heard(1, "/r/crates/c/specs/A.antt:1:2: error: `a`: expected\nlogic=not-proved\n", "/r").verdict, "uncompiled")
+        code = "/r/crates/c/src/a.rt:1:2: error[unknown-name]: cannot find\n"
+        definition = "/r/crates/c/specs/A.antt:1:2: error: `a`: expected\nlogic=not-proved\n"
+        self.assertEqual(heard(1, code, "/r").verdict, "uncompiled")
+        self.assertEqual(heard(1, definition, "/r").verdict, "uncompiled")
 
     def test_what_could_not_be_shown(self):
-        note = "note: /r/crates/c/src/a.rt:4:1: it is not proved that what the function ensures holds when it returns (`returns`)\n"
+        words = "it is not proved that what the function ensures holds when it returns (`returns`)"
+        note = f"note: /r/crates/c/src/a.rt:4:1: {words}\n"
         index = "/r/crates/c/proofs/f/Proof.antt:9:1: error: `array-read-b`: `omega`: the goal does not follow\n"
         for text, need in ((note, "what it ensures"), (index, "safety")):
             self.assertEqual(heard(1, text + "logic=not-proved\n", "/r").need, need)
 
     def test_only_a_proof_is_proved(self):
         self.assertEqual(heard(0, "logic=proved functions=3\n", "/r").verdict, "proved")
-        self.assertEqual(heard(1, "logic=proved functions=3\nrt: lists proved (2 s)\nlogic=not-proved\n", "/r").verdict, "refused")
-        self.assertEqual(heard(1, "logic=proved functions=3\nlogic=not-proved\nrt: FAILED: records\n", "/r").verdict, "unclear")
+        itself_failed = "logic=proved functions=3\nrt: lists proved (2 s)\nlogic=not-proved\n"
+        below_failed = "logic=proved functions=3\nlogic=not-proved\nrt: FAILED: records\n"
+        self.assertEqual(heard(1, itself_failed, "/r").verdict, "refused")
+        self.assertEqual(heard(1, below_failed, "/r").verdict, "unclear")
         self.assertEqual(heard(2, "rt: the toolchain failed\n", "/r").verdict, "unclear")
         self.assertEqual(heard(0, "", "/r").verdict, "unclear")
 

@@ -14,10 +14,19 @@ def try_mutant(scratch, sources, mutant, log, inputs):
     open(log, "w").close()
     try:
         scratch.with_change(mutant, text)
-        result = check_code(scratch, mutant, log, inputs) if mutant.layer == "code" else check_definition(scratch, mutant, log, with_code)
+        if mutant.layer == "code":
+            result = check_code(scratch, mutant, log, inputs)
+        else:
+            result = check_definition(scratch, mutant, log, with_code)
     finally:
         scratch.restore(mutant, text)
-    found = {"key": mutant.key, "diff": mutant.diff(text), "layer": mutant.layer, "crate": mutant.crate, "kind": mutant.kind}
+    found = {
+        "key": mutant.key,
+        "diff": mutant.diff(text),
+        "layer": mutant.layer,
+        "crate": mutant.crate,
+        "kind": mutant.kind,
+    }
     return {**found, **result, "seconds": round(time.monotonic() - began, 1), "log": os.path.basename(log)}
 
 
@@ -57,4 +66,10 @@ def ask_the_code(scratch, crate, said, noticed, log, with_code):
 
 
 def outcome(said, crate, noticed):
-    return {"verdict": said.verdict, "noticed": noticed, "where": crate, "functions": said.functions, "first": said.first}
+    return {
+        "verdict": said.verdict,
+        "noticed": noticed,
+        "where": crate,
+        "functions": said.functions,
+        "first": said.first,
+    }
