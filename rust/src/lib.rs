@@ -58,3 +58,8 @@ pub use refusal::Refusal;
 pub use report::{Model, Report, Reports, Subject, REPORTS};
 pub use row::{Argument, Row, ROWS};
 pub use tool::{Carrier, Port, Tool, PORTS, RECORDS, SLOTS};
+
+/// The manual's Rust is tested with this crate's own examples.
+#[cfg(doctest)]
+#[doc = include_str!("../../docs/MANUAL.md")]
+struct Manual;
