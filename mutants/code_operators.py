@@ -30,6 +30,7 @@ class Body:
         self.file, self.lines, self.toks = file, lines, function.body
         self.structs, self.functions = structs, functions
         self.types = dict(function.params)
+        self.arms = [i for i, tok in enumerate(self.toks) if tok.kind == "number" and self.text(i + 1) == "=>"]
         self.read_lets()
 
     def mutants(self):
@@ -37,8 +38,9 @@ class Body:
             yield from self.at_sign(i, tok)
             yield from self.at_word(i, tok)
             if tok.kind == "number":
-                for new in numbers(tok):
-                    yield self.change(tok, tok.text, new, "constant")
+                yield from self.other_numbers(i, tok)
+        for arm, other in zip(self.arms, self.arms[1:]):
+            yield from self.next_arm(arm, other)
 
     def change(self, tok, old, new, kind):
         return Mutant(self.file, tok.line, tok.column, old, new, kind)
@@ -70,6 +72,19 @@ class Body:
             yield from self.arguments(i)
         if tok.kind == "word" and self.text(i - 1) != "." and self.text(i + 1) == ".":
             yield from self.path(i)
+
+    def other_numbers(self, i, tok):
+        """A `match` takes each number once: an arm gets none that another has."""
+        taken = {self.text(arm) for arm in self.arms} if i in self.arms else set()
+        for new in numbers(tok):
+            if new not in taken:
+                yield self.change(tok, tok.text, new, "constant")
+
+    def next_arm(self, arm, other):
+        """An arm of a `match` that calls what the next arm calls."""
+        mine, its = self.toks[arm + 2], self.toks[other + 2]
+        if self.text(arm + 3) == "(" and self.text(other + 3) == "(" and mine.text != its.text:
+            yield self.change(mine, mine.text, its.text, "arm")
 
     def negated(self, i):
         """`if` and `while` with the opposite condition; not `if let`."""

@@ -3,7 +3,7 @@
 import re
 from dataclasses import dataclass
 
-KINDS = ["arithmetic", "comparison", "boolean", "constant", "condition", "truth", "field", "arguments"]
+KINDS = ["arithmetic", "comparison", "boolean", "constant", "condition", "truth", "field", "arguments", "arm"]
 
 
 @dataclass(frozen=True)

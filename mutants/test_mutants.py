@@ -31,6 +31,14 @@ pub fn told(p: Pod, m: &[u8; 9]) -> bool
     let c = p;
     p.open & (least(c.here, 0x0F) != 3) & !p.open
 }
+
+fn numbered(n: u32, p: Pod) -> u8 {
+    match n {
+        1 => opened(p),
+        2 => closed(p),
+        _ => none(p),
+    }
+}
 """
 DEFINITIONS = """-- A comment with 1 + 2.
 use mathlib.Core.Bool.{Bool, _&&_}
@@ -71,6 +79,7 @@ class Changes(unittest.TestCase):
                 (15, "p.open", "!p.open"), (15, "&", "|"), (15, "!=", "=="), (15, "!", ""), (15, "here", "there"),
                 (15, "c.here, 0x0F", "0x0F, c.here"), (15, "0x0F", "0x10"), (15, "0x0F", "0x0E"),
                 (15, "3", "4"), (15, "3", "2"),
+                (20, "1", "0"), (20, "opened", "closed"), (21, "2", "3"),
             },
         )
 
