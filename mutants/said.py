@@ -9,6 +9,12 @@ FOLLOWS = "was not admitted (it has holes"
 UNPROVED = re.compile(r"^fn (\S+): (?:not proved|no proof: expected[^;]*)(?P<calls>; it calls.*)?", re.MULTILINE)
 # Where a proof is made without a file, what is left is said in a note.
 LEFT = re.compile(r"^note: (?P<file>\S+?):(?P<line>\d+):\d+: (?P<words>it is not proved that .*)$", re.MULTILINE)
+# Theorems that are computed, by their files.
+COMPUTED = {
+    "TwelveRows.antt": "the twelve rows",
+    "EveryRow.antt": "the run through every row",
+    "Reachable.antt": "the reachable answers",
+}
 # A crate below is not proved, so that this one wasn't checked.
 BELOW = "rt: FAILED:"
 UNCOVERED = "the borrow checker does not cover"
@@ -73,12 +79,7 @@ def noticed_by(crate, said, with_code):
         return ["the code's proofs"]
     names = []
     for file, _, _ in said.errors:
-        if file.endswith("/TwelveRows.antt"):
-            name = "the twelve rows"
-        elif file.endswith("/Reachable.antt"):
-            name = "the reachable answers"
-        else:
-            name = "the promises" if crate == "rules" else "the laws"
+        name = COMPUTED.get(file.split("/")[-1], "the promises" if crate == "rules" else "the laws")
         if name not in names:
             names.append(name)
     return names

@@ -4,6 +4,7 @@ pub mod Names
 pub mod Holding
 pub mod SoundFacts
 pub mod TwelveRows
+pub mod EveryRow
 pub mod Reachable
 pub mod Allowed
 pub mod Accepts

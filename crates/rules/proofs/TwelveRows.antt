@@ -11,8 +11,8 @@ use Rattle.rules.specs.Reading.{elsewhere, matching, displaced}
 use Rattle.rules.specs.Rows.{rowOf}
 use Rattle.rules.specs.Reports.{reportIf, tieNumber, byPort, each, byCarrier, differences}
 use Rattle.rules.specs.Outcome.{answerIn, stateAfter}
-use Rattle.rules.specs.Run.{table}
-use Rattle.rules.specs.TwelveRows.{twoPorts, twelve, inputs}
+use Rattle.rules.specs.Run.{inputs, table}
+use Rattle.rules.specs.TwelveRows.{twoPorts, twelve}
 
 pub twelve-rows : table twoPorts (inputs twelve) ≡ twelve
 unfolding every any howMany whereIs without fill sameList isName inBytes sameName isMap inMap

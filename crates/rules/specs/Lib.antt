@@ -15,6 +15,7 @@ pub mod Reports
 pub mod Outcome
 pub mod Run
 pub mod TwelveRows
+pub mod EveryRow
 pub mod History
 pub mod Promise
 pub mod Reachable

@@ -2,11 +2,8 @@
 use Prim.Native.Nat.{ℕ}
 use mathlib.Core.List.{List, [], _∷_}
 use lib.ListN.{replicate}
-use Rattle.records.specs.Names.{noName, inBytes}
-use Rattle.rules.specs.declared.report.Report.{Report}
 use Rattle.rules.specs.State.{State, start}
-use Rattle.rules.specs.Seen.{Input}
-use Rattle.rules.specs.Run.{Line}
+use Rattle.rules.specs.Run.{Line, row, onPort, onName}
 
 abbrev AB : List ℕ
 AB = 0x41 ∷ 0x42 ∷ []
@@ -14,37 +11,22 @@ AB = 0x41 ∷ 0x42 ∷ []
 abbrev AC : List ℕ
 AC = 0x41 ∷ 0x43 ∷ []
 
-abbrev row : ℕ → ℕ → List ℕ → List ℕ → ℕ → List Report → Line
-row number port name codes answer reports =
-    record { input = record { number = number; port = port; value = 0; name = name; codes = codes }; answer = answer; reports = reports }
-
-abbrev onPort : ℕ → ℕ → ℕ → ℕ → Report
-onPort m p old new = record { model = m; port = p; name = noName; old = old; new = new }
-
-abbrev onName : ℕ → List ℕ → ℕ → ℕ → Report
-onName m n old new = record { model = m; port = 0; name = inBytes n; old = old; new = new }
-
 abbrev pub twoPorts : State
 twoPorts = start 2 0
 
 abbrev pub twelve : List Line
 twelve =
-    row 1 1 AB [] 0 (onPort 3 1 0 1 ∷ onPort 4 1 0 1 ∷ onName 5 AB 0 1 ∷ onName 6 AB 0 1 ∷ onName 7 AB 0 1 ∷ [])
-    ∷ row 13 1 [] [] 0 (onPort 1 1 1 3 ∷ onPort 3 1 1 0 ∷ [])
-    ∷ row 14 1 [] [] 0 []
-    ∷ row 16 1 AC [] 0
+    row 1 1 0 AB [] 0 (onPort 3 1 0 1 ∷ onPort 4 1 0 1 ∷ onName 5 AB 0 1 ∷ onName 6 AB 0 1 ∷ onName 7 AB 0 1 ∷ [])
+    ∷ row 13 1 0 [] [] 0 (onPort 1 1 1 3 ∷ onPort 3 1 1 0 ∷ [])
+    ∷ row 14 1 0 [] [] 0 []
+    ∷ row 16 1 0 AC [] 0
     (onPort 4 1 1 1 ∷ onName 5 AB 1 0 ∷ onName 5 AC 0 2 ∷ onName 6 AB 1 0 ∷ onName 6 AC 0 1 ∷ onName 7 AB 1 0 ∷ onName 7 AC 0 1 ∷ [])
-    ∷ row 19 0 AC [] 7 []
-    ∷ row 5 0 AC [] 0 (onName 5 AC 2 3 ∷ [])
-    ∷ row 19 0 AC [] 0 []
-    ∷ row 20 0 AC (replicate 25 3) 0 (onName 6 AC 1 2 ∷ [])
-    ∷ row 21 0 AC [] 7 []
-    ∷ row 5 0 AC [] 0 (onName 6 AC 2 3 ∷ [])
-    ∷ row 21 0 AC [] 0 (onName 7 AC 1 2 ∷ [])
-    ∷ row 6 0 AC [] 5 []
+    ∷ row 19 0 0 AC [] 7 []
+    ∷ row 5 0 0 AC [] 0 (onName 5 AC 2 3 ∷ [])
+    ∷ row 19 0 0 AC [] 0 []
+    ∷ row 20 0 0 AC (replicate 25 3) 0 (onName 6 AC 1 2 ∷ [])
+    ∷ row 21 0 0 AC [] 7 []
+    ∷ row 5 0 0 AC [] 0 (onName 6 AC 2 3 ∷ [])
+    ∷ row 21 0 0 AC [] 0 (onName 7 AC 1 2 ∷ [])
+    ∷ row 6 0 0 AC [] 5 []
     ∷ []
-
--- the inputs of a table
-abbrev pub inputs : List Line → List Input
-inputs [] = []
-inputs (l ∷ ls) = l .input ∷ inputs ls
