@@ -9,10 +9,10 @@ use image::read::port_at;
 use image::read::record_at;
 use image::report::no_reports;
 use parts::apply::apply;
-use parts::look::look;
 use parts::report::told;
 use rows::numbered::answer_of;
 use rows::numbered::effect_of;
+use sight::look::look;
 use soundness::whole::sound;
 
 // For a layer above that has tested soundness itself: it is most of the time that a step takes.

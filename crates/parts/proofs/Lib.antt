@@ -1,5 +1,3 @@
 pub mod Bridge
-pub mod Tables
-pub mod Passing
 pub mod Notes
 pub mod InPlace

@@ -1,3 +1,2 @@
-pub mod Pass
 pub mod Apply
 pub mod Told

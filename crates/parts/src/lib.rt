@@ -1,4 +1,3 @@
-// The three parts of a step, each over the bytes that its caller lends: what a row sees, its effect carried out, its reports.
+// What an accepted input does to the bytes that its caller lends: its effect, and its reports.
 pub mod apply;
-pub mod look;
 pub mod report;

@@ -1,5 +1,3 @@
-// The rows about a pod in the tool: its name read, judged, moved, opened.
-pub mod buffer;
-pub mod opening;
+// The rows by which a pod is verified: its name read, and the word of the host.
 pub mod reading;
 pub mod verdict;

@@ -1,0 +1,2 @@
+// What a row sees, from the bytes.
+pub mod look;
