@@ -130,7 +130,7 @@ module _
   unfolding byCarrier recordTouched
   carriers-touched = ap₂ _++_ gone-part stay-part
 
--- ── Ports ───────────────────────────────────────────────────────────────────────────────────
+-- ── Ports ──
 spot-of : (p : ℕ) → spotOf p < 4 → 1 + spotOf p ≡ p
 spot-of p h = go (ℕ-discrete p 0)
   where

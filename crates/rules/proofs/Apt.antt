@@ -182,7 +182,7 @@ module _ (s : State) (i : Input) (h : sound s ≡ true) where
   unfolding see
   stands-not-count u z = let b = stands-in u in omega arith
 
-  -- ── Row by row ────────────────────────────────────────────────────────────────────────────
+  -- ── Row by row ──
   bind-apt : Fine s (bind x)
   unfolding see
   bind-apt = record {

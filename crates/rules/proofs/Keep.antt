@@ -29,7 +29,7 @@ use Rattle.rules.proofs.Names.{name-is, name-same, name-sym}
 use Rattle.rules.proofs.Apt.{Apt}
 use Rattle.rules.proofs.SoundParts.{PortFits, Stands, Fits, Shown, Facts}
 
--- ── What an effect has to show ──────────────────────────────────────────────────────────────
+-- ── What an effect has to show ──
 -- there is a record that follows: it is new, or another changes into it
 abbrev pub Follows : State → Effect → Type 0
 Follows s e = (e .made ≡ true) ⊎ (e .changes < length (s .carriers))
@@ -65,7 +65,7 @@ pub record Keeps (s : State) (e : Effect) : Type 0 where
   pub gone : e .goes < length (s .carriers) → recordOf s (e .goes) .port ≢ 0 → recordOf s (e .goes) .port ≡ e .port
   pub room : e .made ≡ true → expected (e .next) ≡ true → howMany expected (s .carriers) < 16
 
--- ── Back to the tests ───────────────────────────────────────────────────────────────────────
+-- ── Back to the tests ──
 port-in-range : (q : Port) → PortFits q → portInRange q ≡ true
 unfolding portInRange
 port-in-range q h =
@@ -126,7 +126,7 @@ open-agrees q c h = go (isOpen c) refl (inBuffer c) refl
     go true p true q = refl
     go true p false e = let r = h p (eqb-false (c .place) 2 e) in and-i (and-i (eq-eqb (c .place) 1 (r .0)) (r .1)) (r .2)
 
--- ── After an effect ─────────────────────────────────────────────────────────────────────────
+-- ── After an effect ──
 spot-suc : (k : ℕ) → spotOf (suc k) ≡ k
 spot-suc k = rw (ne-eqb (suc k) 0 (λ z. omega arith)) (omega arith)
 

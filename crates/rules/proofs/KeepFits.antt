@@ -20,7 +20,7 @@ use Rattle.rules.proofs.Names.{name-same}
 use Rattle.rules.proofs.SoundParts.{PortFits, Stands, Fits}
 use Rattle.rules.proofs.Keep.{Calm}
 
--- ── Ports ───────────────────────────────────────────────────────────────────────────────────
+-- ── Ports ──
 -- a tie to nothing is in range
 pub no-tie : (b : Bool) → (sameName noName noName || b) ≡ true
 no-tie b = rw (name-same noName noName refl)
@@ -70,7 +70,7 @@ moving-calm e n = record { tie = e; quiet = λ a b. absurd (n (eqb-true _ 0 a)) 
 pub unblocked-calm : {q r : Port} → r .tie ≡ q .tie → q .transfer ≢ 3 → Calm q r
 unblocked-calm e n = record { tie = e; quiet = λ a b. absurd (n (eqb-true _ 3 b)) }
 
--- ── Records ─────────────────────────────────────────────────────────────────────────────────
+-- ── Records ──
 module _ {P B : ℕ} {c : Carrier} (h : Fits P B c) where
   pub stands-fits : {l v p : ℕ} → Stands P B l v p → Fits P B (withPlace l (withSpot v (withPort p c)))
   stands-fits s = record {

@@ -31,7 +31,7 @@ module _ (s : State) (i : Input) (f : Facts s) where
   abbrev x : Seen
   x = see s i
 
-  -- ── Rows 9 to 12 ──────────────────────────────────────────────────────────────────────────
+  -- ── Rows 9 to 12 ──
   pub change-access-keeps : Good s (changeAccess x)
   unfolding see
   change-access-keeps = record {
@@ -107,7 +107,7 @@ module _ (s : State) (i : Input) (f : Facts s) where
         (record { tie = refl; quiet = λ a b. (a, b) });
   }
 
-  -- ── Rows 13 to 15 and 24 to 26 ────────────────────────────────────────────────────────────
+  -- ── Rows 13 to 15 and 24 to 26 ──
   pub load-start-keeps : Good s (loadStart x)
   unfolding see
   load-start-keeps = record {
@@ -184,7 +184,7 @@ module _ (s : State) (i : Input) (f : Facts s) where
         (moving-calm refl (λ z. omega arith));
   }
 
-  -- ── Rows 2 and 4 ──────────────────────────────────────────────────────────────────────────
+  -- ── Rows 2 and 4 ──
   unbind : (n : ℕ) → n ≡ length (s .carriers) → (q : Port) (k : ℕ) → k < length (s .carriers) → recordOf s k .port ≢ 0
       → q ≡ portOf s (recordOf s k .port) → Keeps s (onPortAndGone n (recordOf s k .port) (unbound q) k)
   unbind n m q k b d e =

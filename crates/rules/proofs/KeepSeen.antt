@@ -24,7 +24,7 @@ use Rattle.rules.proofs.Names.{name-is}
 use Rattle.rules.proofs.SoundParts.{PortFits, Fits, Facts}
 use Rattle.rules.proofs.Orderly.{ties-differ}
 
--- ── Names and maps in a record ──────────────────────────────────────────────────────────────
+-- ── Names and maps in a record ──
 zeros : (n : ℕ) → (zeroEnded (fill n 0 []) ≡ true) × (headOr0 (fill n 0 []) ≡ 0)
 unfolding zeroEnded headOr0 fill
 zeros zero = (refl, refl)

@@ -50,7 +50,7 @@ pub record Arrives (s : State) (e : Effect) : Type 0 where
   pub room : e .made ≡ true → expected (e .next) ≡ true → howMany expected (s .carriers) < 16
 
 module _ (s : State) (f : Facts s) where
-  -- ── Only a port changes, and a record may go ──────────────────────────────────────────────
+  -- ── Only a port changes, and a record may go ──
   pub port-keeps : (p : ℕ) (q : Port) (k : ℕ) → PortFits q
       → ((j : ℕ) → j < length (s .carriers) → j ≢ k → p ≢ 0 → recordOf s j .port ≡ p → Calm (portOf s p) q)
       → (p ≢ 0 → q .tie ≢ noName → (j : ℕ) × (j < length (s .carriers)) × (j ≢ k) × (recordOf s j .port ≡ p))
@@ -92,7 +92,7 @@ module _ (s : State) (f : Facts s) where
   pub gone-keeps : (k : ℕ) → recordOf s k .port ≡ 0 → Keeps s (onPortAndGone (length (s .carriers)) 0 noPort k)
   gone-keeps k z = port-keeps 0 noPort k no-port-fits (λ _ _ _ n. absurd (n refl)) (λ n. absurd (n refl)) (λ _ n. absurd (n z))
 
-  -- ── A record changes where it stands ──────────────────────────────────────────────────────
+  -- ── A record changes where it stands ──
   pub record-keeps : (k : ℕ) (c : Carrier) → Apt s (onRecord (length (s .carriers)) k c) → k < length (s .carriers)
       → Fits (length (s .ports)) (s .places) c → Alike (recordOf s k) c → Shown (portOf s (c .port)) c
       → Keeps s (onRecord (length (s .carriers)) k c)
@@ -116,7 +116,7 @@ module _ (s : State) (f : Facts s) where
     room = λ e. clash e refl;
   }
 
-  -- ── A record comes to be tied to the port, or is so already ───────────────────────────────
+  -- ── A record comes to be tied to the port, or is so already ──
   pub arrives-keeps : (e : Effect) → Apt s e → Arrives s e → Keeps s e
   arrives-keeps e a h = record {
     port = h .port;
@@ -155,7 +155,7 @@ module _ (s : State) (f : Facts s) where
     room = λ e. clash e refl;
   })
 
-  -- ── A record leaves its port for the buffer ───────────────────────────────────────────────
+  -- ── A record leaves its port for the buffer ──
   pub leaves-keeps : (p : ℕ) (q : Port) (k : ℕ) (c : Carrier) → k < length (s .carriers) → p ≢ 0 → recordOf s k .port ≡ p
       → PortFits q → q .tie ≡ noName → Fits (length (s .ports)) (s .places) c → c .place ≡ 2
       → ((j : ℕ) → j < length (s .carriers) → j ≢ k → recordOf s j .spot ≢ c .spot)
@@ -174,7 +174,7 @@ module _ (s : State) (f : Facts s) where
     room = λ e. clash e refl;
   }
 
-  -- ── A record is announced, with no tie ────────────────────────────────────────────────────
+  -- ── A record is announced, with no tie ──
   pub announced-keeps : (c : Carrier) → Fits (length (s .ports)) (s .places) c → c .port ≡ 0 → c .spot ≡ 0 → c .opened ≡ 0
       → howMany expected (s .carriers) < 16
       → Keeps s (record { port = 0; becomes = noPort; goes = length (s .carriers); changes = length (s .carriers); next = c; made = true })

@@ -92,7 +92,7 @@ module _ (s : State) (i : Input) (f : Facts s) where
   unfolding takesUnknownPod
   found-untied b n u = eqb-true (x .found .port) 0 (and-l _ _ (takes u b n))
 
-  -- ── Row 5 ─────────────────────────────────────────────────────────────────────────────────
+  -- ── Row 5 ──
   abbrev proceeding : Bool → Bool → Effect
   proceeding w m = record {
     port = cond w 0 (x .port);
@@ -128,7 +128,7 @@ module _ (s : State) (i : Input) (f : Facts s) where
           (either-shut s i f p)
           (λ j z. nobody-tied s i f (o .free) (r .0) j (z .live)) (λ u n. absurd (n (t p u))) (λ b. absurd (omega arith))
 
-  -- ── Row 6 ─────────────────────────────────────────────────────────────────────────────────
+  -- ── Row 6 ──
   abbrev port-of : Bool → Bool → Port
   port-of w v = cond w (cond v (x .home) noPort) (tiedTo (x .name) (x .here))
 

@@ -42,7 +42,7 @@ orderly s h =
       placesDiffer = λ j k a b t _. spots-differ s f j k a b t;
     }
 
--- ── The bound ───────────────────────────────────────────────────────────────────────────────
+-- ── The bound ──
 -- each record is expected, at a port or in the buffer
 three-kinds : (l : List Carrier) → ((j : ℕ) → j < length l → getD l j noCarrier .place ≤ 2)
     → length l ≡ howMany expected l + (howMany atPort l + howMany inBuffer l)

@@ -20,7 +20,7 @@ promised P B a b c past = record {
   earned = earned P B (sound-run P B a b c) past;
 }
 
--- ── The tools that the step returns hold these very states ──────────────────────────────────
+-- ── The tools that the step returns hold these very states ──
 module _ (P B : ℕ) (yes : setUp P B .answer ≡ 0) where
   -- after a set-up that was accepted every tool that a run reaches is sound
   pub tool-sound : (past : List Input) → soundTool (reachedTool (setUp P B .tool) past) ≡ true

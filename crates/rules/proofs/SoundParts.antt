@@ -81,7 +81,7 @@ pub record Facts (s : State) : Type 0 where
       → recordOf s j .spot ≡ recordOf s k .spot → j ≡ k
   pub few : howMany expected (s .carriers) ≤ 16
 
--- ── From the tests ──────────────────────────────────────────────────────────────────────────
+-- ── From the tests ──
 implied : (a b : Bool) → (not a || b) ≡ true → a ≡ true → b ≡ true
 implied true b e t = e
 implied false b e t = clash t refl
@@ -164,7 +164,7 @@ shown-of q c e o n =
     neither true p q = q
     neither false p q = clash p refl
 
--- ── The facts of a sound state ──────────────────────────────────────────────────────────────
+-- ── The facts of a sound state ──
 -- no port, which stands for a port that the tool hasn't, fits
 pub no-port-fits : PortFits noPort
 unfolding sameName sameList

@@ -85,7 +85,7 @@ places-after s i = go (eqb (answerIn s i) 0)
     go true = refl
     go false = refl
 
--- ── Runs ────────────────────────────────────────────────────────────────────────────────────
+-- ── Runs ──
 pub sound-reached : (s : State) → sound s ≡ true → (run : List Input) → sound (reached s run) ≡ true
 unfolding reached
 sound-reached s h [] = h
@@ -101,7 +101,7 @@ unfolding reached
 places-reached s [] = refl
 places-reached s (i ∷ earlier) = places-after (reached s earlier) i ∙ places-reached s earlier
 
--- ── Set-up ──────────────────────────────────────────────────────────────────────────────────
+-- ── Set-up ──
 pub sound-start : (P B : ℕ) → 1 ≤ P → P ≤ 4 → B ≤ 16 → sound (start P B) ≡ true
 unfolding sound inRange tiesAgree tieHeld fewExpected every everyTwo any howMany portInRange portAgrees portOf sameName sameList
 sound-start zero B a b c = absurd (omega arith)
@@ -111,7 +111,7 @@ sound-start (suc (suc (suc zero))) B a b c = rw (le-leb B 16 c)
 sound-start (suc (suc (suc (suc zero)))) B a b c = rw (le-leb B 16 c)
 sound-start (suc (suc (suc (suc (suc P))))) B a b c = absurd (omega arith)
 
--- ── The promise's first half, for every run from a valid set-up ─────────────────────────────
+-- ── The promise's first half, for every run from a valid set-up ──
 module _ (P B : ℕ) (a : 1 ≤ P) (b : P ≤ 4) (c : B ≤ 16) (run : List Input) where
   pub sound-run : sound (reached (start P B) run) ≡ true
   sound-run = sound-reached (start P B) (sound-start P B a b c) run

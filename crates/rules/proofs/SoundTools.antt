@@ -68,7 +68,7 @@ module _ (s : State) (h : sound s ≡ true) where
   unfolding soundTool
   held-sound = and-i (and-i counts-fit unused-zero) (rw held-state h)
 
--- ── Set-up ──────────────────────────────────────────────────────────────────────────────────
+-- ── Set-up ──
 valid : (P B : ℕ) → (between 1 P 4 && leb B 16) ≡ true → sound (start P B) ≡ true
 valid P B e =
     sound-start P B (leb-true 1 P (and-l _ _ (and-l _ _ e))) (leb-true P 4 (and-r (leb 1 P) _ (and-l _ _ e)))
@@ -107,7 +107,7 @@ setup-refused P B = go (between 1 P 4 && leb B 16)
     go true n = absurd (n refl)
     go false n = no-tool-unsound
 
--- ── Inputs ──────────────────────────────────────────────────────────────────────────────────
+-- ── Inputs ──
 module _ (t : Tool) (i : Input) (h : soundTool t ≡ true) where
   abbrev outcomeIf : Bool → Outcome
   outcomeIf w = cond w (accepted (stateOf t) (stateAfter (stateOf t) i)) (refused t (answerIn (stateOf t) i))

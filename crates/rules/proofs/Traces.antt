@@ -145,7 +145,7 @@ module _ (s : State) (i : Input) (h : sound s ≡ true) (a : eqb (answerIn s i) 
   unfolding foundOrNew
   new-is u = rw u
 
-  -- ── Row by row ────────────────────────────────────────────────────────────────────────────
+  -- ── Row by row ──
   -- 1 and 3: a new record says nothing yet
   says-nothing : (n p : ℕ) → Harmless n → Born s i n (newCarrier (x .name) p)
   says-nothing n p d = record { okId = λ z. clash z refl; uncancelled = λ _. d (x .name); plain = refl }

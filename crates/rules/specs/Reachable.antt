@@ -10,7 +10,7 @@ use Rattle.rules.specs.Seen.{Input, inputOf}
 use Rattle.rules.specs.Outcome.{answerIn, stateAfter}
 use Rattle.rules.specs.Run.{run}
 
--- ── The inputs, by document 01's names ──────────────────────────────────────────────────────
+-- ── The inputs, by document 01's names ──
 abbrev Bind : ℕ → List ℕ → Input
 Bind port name = inputOf 1 port 0 name []
 
@@ -89,7 +89,7 @@ UnloadDone port = inputOf 25 port 0 [] []
 abbrev UnloadFail : ℕ → Input
 UnloadFail port = inputOf 26 port 0 [] []
 
--- ── Names, codes, and runs that many lines begin with ───────────────────────────────────────
+-- ── Names, codes, and runs that many lines begin with ──
 abbrev A : List ℕ
 A = 0x41 ∷ []
 
@@ -129,7 +129,7 @@ accessed = agreed ++ AccessStart A ∷ []
 abbrev finished : List Input
 finished = accessed ++ AccessEnd A 0 ∷ Close A ∷ []
 
--- ── The table ───────────────────────────────────────────────────────────────────────────────
+-- ── The table ──
 -- A line: a row and an answer, the tool's ports and places, the inputs before, and the last input.
 pub record Line : Type 0 where
   pub row : ℕ
@@ -264,7 +264,7 @@ shown l =
     && eqb (l .last .number) (l .row)
     && eqb (answerIn (run (start (l .ports) (l .places)) (l .before)) (l .last)) (l .answer)
 
--- ── What document 01 allows ─────────────────────────────────────────────────────────────────
+-- ── What document 01 allows ──
 pub record Pair : Type 0 where
   pub row : ℕ
   pub answer : ℕ

@@ -65,7 +65,7 @@ onRecord n k c = record { port = 0; becomes = noPort; goes = n; changes = k; nex
 abbrev pub onBoth : ℕ → ℕ → Port → ℕ → Carrier → Effect
 onBoth n p q k c = record { port = p; becomes = q; goes = n; changes = k; next = c; made = false }
 
--- ── What rows ask ───────────────────────────────────────────────────────────────────────────
+-- ── What rows ask ──
 -- the port given is one of the tool's, or none is given
 abbrev pub isPortOrNone : Seen → Bool
 isPortOrNone x = x .isport || x .noport

@@ -33,7 +33,7 @@ unfoldable pub table : State → List Input → List Line
 table s [] = []
 table s (i ∷ is) = lineOf s i ∷ table (stateAfter s i) is
 
--- ── How a table is written ──────────────────────────────────────────────────────────────────
+-- ── How a table is written ──
 abbrev pub row : ℕ → ℕ → ℕ → List ℕ → List ℕ → ℕ → List Report → Line
 row number port value name codes answer reports =
     record { input = inputOf number port value name codes; answer = answer; reports = reports }
