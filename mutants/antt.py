@@ -2,7 +2,7 @@
 
 from dataclasses import dataclass, field
 
-from tokens import ANTT, CLOSE, OPEN, spelled, split, tokens
+from tokens import ANTT, CLOSE, places, spelled, split, tokens
 
 HEADS = {"use", "pub mod", "module", "record", "data"}
 MODES = {"pub", "abbrev", "unfoldable"}
@@ -55,19 +55,6 @@ def items(toks):
             found[-1].append(tok)
         if tok.text == "where" and found and found[-1][0].text == "module":
             base = found[-1][0].column + 2
-    return found
-
-
-def places(toks, text):
-    """Where a text stands in no bracket."""
-    depth, found = 0, []
-    for i, tok in enumerate(toks):
-        if tok.text in OPEN:
-            depth += 1
-        elif tok.text in CLOSE:
-            depth -= 1
-        elif tok.text == text and depth == 0:
-            found.append(i)
     return found
 
 

@@ -62,20 +62,26 @@ def group_end(toks, at):
     return len(toks)
 
 
-def split(toks, separator):
-    """The parts between separators that stand in no bracket; no empty last part."""
-    parts, depth, part = [], 0, []
-    for tok in toks:
+def places(toks, text):
+    """Where a text stands in no bracket."""
+    depth, found = 0, []
+    for i, tok in enumerate(toks):
         if tok.text in OPEN:
             depth += 1
         elif tok.text in CLOSE:
             depth -= 1
-        if tok.text == separator and depth == 0:
-            parts.append(part)
-            part = []
-        else:
-            part.append(tok)
-    return parts + [part] if part else parts
+        elif tok.text == text and depth == 0:
+            found.append(i)
+    return found
+
+
+def split(toks, separator):
+    """The parts between separators that stand in no bracket; no empty last part."""
+    parts, start = [], 0
+    for at in places(toks, separator):
+        parts.append(toks[start:at])
+        start = at + 1
+    return parts + [toks[start:]] if start < len(toks) else parts
 
 
 def spelled(toks):
