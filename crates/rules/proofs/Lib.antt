@@ -27,3 +27,4 @@ pub mod Traces
 pub mod Earned
 pub mod Promised
 pub mod Afresh
+pub mod Pairs

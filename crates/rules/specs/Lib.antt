@@ -18,4 +18,8 @@ pub mod TwelveRows
 pub mod EveryRow
 pub mod History
 pub mod Promise
+pub mod Inputs
 pub mod Reachable
+pub mod Conditions
+pub mod Pairs
+pub mod PairsBooking

@@ -1,133 +1,18 @@
 -- For each row and each answer that document 01 allows for it, a run from set-up whose last input is given that answer.
-use Prim.Native.Nat.{ℕ, zero, suc, _+_}
+use Prim.Native.Nat.{ℕ}
 use mathlib.Core.Bool.{Bool, true, _&&_, _||_}
 use mathlib.Core.List.{List, [], _∷_, _++_, map}
-use lib.ListN.{replicate}
 use lib.Dec.{eqb}
 use Rattle.lists.specs.Lists.{any}
 use Rattle.rules.specs.State.{State, start, setUp}
-use Rattle.rules.specs.Seen.{Input, inputOf}
+use Rattle.rules.specs.Seen.{Input}
 use Rattle.rules.specs.Outcome.{answerIn, stateAfter}
 use Rattle.rules.specs.Run.{run}
-
--- ── The inputs, by document 01's names ──
-abbrev Bind : ℕ → List ℕ → Input
-Bind port name = inputOf 1 port 0 name []
-
-abbrev CancelBind : ℕ → List ℕ → Input
-CancelBind port name = inputOf 2 port 0 name []
-
-abbrev CarrierNotification : List ℕ → Input
-CarrierNotification name = inputOf 3 0 0 name []
-
-abbrev CancelCarrierNotification : List ℕ → Input
-CancelCarrierNotification name = inputOf 4 0 0 name []
-
-abbrev ProceedWithCarrier : List ℕ → ℕ → Input
-ProceedWithCarrier name port = inputOf 5 port 0 name []
-
-abbrev CancelCarrier : List ℕ → ℕ → Input
-CancelCarrier name port = inputOf 6 port 0 name []
-
-abbrev CarrierOut : List ℕ → ℕ → Input
-CarrierOut name port = inputOf 7 port 0 name []
-
-abbrev CarrierIn : List ℕ → Input
-CarrierIn name = inputOf 8 0 0 name []
-
-abbrev ChangeAccess : ℕ → ℕ → Input
-ChangeAccess port value = inputOf 9 port value [] []
-
-abbrev ChangeServiceStatus : ℕ → ℕ → Input
-ChangeServiceStatus port value = inputOf 10 port value [] []
-
-abbrev ReserveAtPort : ℕ → Input
-ReserveAtPort port = inputOf 11 port 0 [] []
-
-abbrev CancelReservationAtPort : ℕ → Input
-CancelReservationAtPort port = inputOf 12 port 0 [] []
-
-abbrev LoadStart : ℕ → Input
-LoadStart port = inputOf 13 port 0 [] []
-
-abbrev LoadDone : ℕ → Input
-LoadDone port = inputOf 14 port 0 [] []
-
-abbrev LoadFail : ℕ → Input
-LoadFail port = inputOf 15 port 0 [] []
-
-abbrev IdRead : ℕ → List ℕ → Input
-IdRead port name = inputOf 16 port 0 name []
-
-abbrev IdReadFailed : ℕ → Input
-IdReadFailed port = inputOf 17 port 0 [] []
-
-abbrev MoveIn : ℕ → ℕ → Input
-MoveIn port place = inputOf 18 port place [] []
-
-abbrev Open : List ℕ → Input
-Open name = inputOf 19 0 0 name []
-
-abbrev SlotMap : List ℕ → List ℕ → Input
-SlotMap name codes = inputOf 20 0 0 name codes
-
-abbrev AccessStart : List ℕ → Input
-AccessStart name = inputOf 21 0 0 name []
-
-abbrev AccessEnd : List ℕ → ℕ → Input
-AccessEnd name value = inputOf 22 0 value name []
-
-abbrev Close : List ℕ → Input
-Close name = inputOf 23 0 0 name []
-
-abbrev UnloadStart : ℕ → Input
-UnloadStart port = inputOf 24 port 0 [] []
-
-abbrev UnloadDone : ℕ → Input
-UnloadDone port = inputOf 25 port 0 [] []
-
-abbrev UnloadFail : ℕ → Input
-UnloadFail port = inputOf 26 port 0 [] []
-
--- ── Names, codes, and runs that many lines begin with ──
-abbrev A : List ℕ
-A = 0x41 ∷ []
-
-abbrev B : List ℕ
-B = 0x42 ∷ []
-
-abbrev threes : List ℕ
-threes = replicate 25 3
-
--- n carriers are expected, none of them A or B
-abbrev expecting : ℕ → List Input
-expecting zero = []
-expecting (suc n) = CarrierNotification ((0x61 + n) ∷ []) ∷ expecting n
-
--- a pod that nobody announced comes to port 1, and its tag reads A
-abbrev unannounced : List Input
-unannounced = LoadStart 1 ∷ LoadDone 1 ∷ IdRead 1 A ∷ []
-
--- a carrier that was bound comes to port 1, and its tag agrees
-abbrev arrived : List ℕ → List Input
-arrived name = Bind 1 name ∷ LoadStart 1 ∷ LoadDone 1 ∷ IdRead 1 name ∷ []
-
--- it goes on to a buffer place
-abbrev stored : List ℕ → ℕ → List Input
-stored name place = arrived name ++ MoveIn 1 place ∷ []
-
--- A is opened at port 1; its slot map is read and agreed to; wafers are taken from it; it is done with
-abbrev opened : List Input
-opened = arrived A ++ Open A ∷ []
-
-abbrev agreed : List Input
-agreed = opened ++ SlotMap A threes ∷ ProceedWithCarrier A 1 ∷ []
-
-abbrev accessed : List Input
-accessed = agreed ++ AccessStart A ∷ []
-
-abbrev finished : List Input
-finished = accessed ++ AccessEnd A 0 ∷ Close A ∷ []
+use Rattle.rules.specs.Inputs.{Bind, CancelBind, CarrierNotification, CancelCarrierNotification, ProceedWithCarrier, CancelCarrier}
+use Rattle.rules.specs.Inputs.{CarrierOut, CarrierIn, ChangeAccess, ChangeServiceStatus, ReserveAtPort, CancelReservationAtPort}
+use Rattle.rules.specs.Inputs.{LoadStart, LoadDone, LoadFail, IdRead, IdReadFailed, MoveIn, Open, SlotMap, AccessStart, AccessEnd}
+use Rattle.rules.specs.Inputs.{Close, UnloadStart, UnloadDone, UnloadFail, A, B, threes, expecting, unannounced, arrived, stored}
+use Rattle.rules.specs.Inputs.{opened, agreed, accessed, finished}
 
 -- ── The table ──
 -- A line: a row and an answer, the tool's ports and places, the inputs before, and the last input.
