@@ -1,4 +1,4 @@
--- Each condition of each row is shown by a pair.
+-- Each condition of a row is shown by a pair, and none is left out.
 use mathlib.Core.Path.{_≡_, refl}
 use mathlib.Core.Bool.{true}
 use Rattle.lists.specs.Lists.{every, everyTwo, any, howMany, whereIs, without, fill, sameList}
@@ -17,13 +17,17 @@ use Rattle.rules.specs.Outcome.{answerIn, stateAfter}
 use Rattle.rules.specs.Run.{run}
 use Rattle.rules.specs.Reachable.{smooth}
 use Rattle.rules.specs.Conditions.{asks}
-use Rattle.rules.specs.Pairs.{differing, answered, shows}
-use Rattle.rules.specs.PairsBooking.{bookingPairs}
+use Rattle.rules.specs.Pairs.{differing, others, answered, shows, shownOf, placesOf, complete}
+use Rattle.rules.specs.EveryPair.{pairs, shownRows}
 
-pub booking-shown : every shows bookingPairs ≡ true
+pub pairs-show : every shows pairs ≡ true
 unfolding every everyTwo any howMany whereIs without fill sameList isName inBytes sameName headOr0 zeroEnded holdsName isMap inMap
     portInRange spotInRange statusInRange carrierInRange inRange otherName tieKept tieHeld tiesAgree placeAgrees otherSpot fewExpected
     portAgrees openAgrees sound portOf recordOf setUp narrow nameStands tieStands howManyExpected spotTaken someOpen see lower lowest enact
     placed unknownPod foundOrNew meant meantPort meantStands onePair takesUnknownPod canProceed canCancel cancelAt cancelPort failed
-    elsewhere matching displaced rowOf answerIn stateAfter run smooth asks differing answered shows
-booking-shown = refl
+    elsewhere matching displaced rowOf answerIn stateAfter run smooth asks differing others answered shows
+pairs-show = refl
+
+pub pairs-complete : every (complete pairs) shownRows ≡ true
+unfolding every sameList asks shownOf placesOf complete
+pairs-complete = refl

@@ -90,6 +90,10 @@ A = 0x41 ∷ []
 abbrev pub B : List ℕ
 B = 0x42 ∷ []
 
+-- n letters: a name up to sixteen; of seventeen a record would hold the first sixteen
+abbrev pub letters : ℕ → List ℕ
+letters n = replicate n 0x41
+
 abbrev pub threes : List ℕ
 threes = replicate 25 3
 

@@ -23,3 +23,6 @@ pub mod Reachable
 pub mod Conditions
 pub mod Pairs
 pub mod PairsBooking
+pub mod PairsVerdict
+pub mod PairsBuffer
+pub mod EveryPair

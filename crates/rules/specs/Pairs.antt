@@ -1,6 +1,6 @@
 -- A condition of a row is shown by a pair of cases that differ in it alone and get different answers.
 use Prim.Native.Nat.{ℕ, suc}
-use mathlib.Core.Bool.{Bool, false, not, cond, _&&_}
+use mathlib.Core.Bool.{Bool, true, false, not, cond, _&&_}
 use mathlib.Core.List.{List, [], _∷_}
 use lib.ListN.{getD}
 use lib.Dec.{eqb}
@@ -10,7 +10,7 @@ use Rattle.records.specs.declared.carrier.Carrier.{Carrier}
 use Rattle.records.specs.Names.{inBytes}
 use Rattle.rules.specs.State.{State, start, setUp}
 use Rattle.rules.specs.Sound.{sound}
-use Rattle.rules.specs.Seen.{Input, see}
+use Rattle.rules.specs.Seen.{Input, inputOf, see}
 use Rattle.rules.specs.Outcome.{answerIn}
 use Rattle.rules.specs.Run.{run}
 use Rattle.rules.specs.Reachable.{smooth}
@@ -62,6 +62,11 @@ differing k [] ys = []
 differing k (x ∷ xs) [] = []
 differing k (x ∷ xs) (y ∷ ys) = cond (cond x (not y) y) (k ∷ differing (suc k) xs ys) (differing (suc k) xs ys)
 
+-- the numbers of a list but for k
+unfoldable pub others : ℕ → List ℕ → List ℕ
+others k [] = []
+others k (n ∷ ns) = cond (eqb n k) (others k ns) (n ∷ others k ns)
+
 -- the case may stand, its input is the row's, and it is given the answer
 unfoldable pub answered : ℕ → Case → ℕ → Bool
 answered row c n = mayStand c && eqb (inputIn c .number) row && eqb (answerIn (stateIn c) (inputIn c)) n
@@ -72,12 +77,22 @@ shows p =
     && answered (p .row) (p .fails) (p .other)
     && not (eqb (p .answer) (p .other))
     && getD (askedIn (p .row) (p .holds)) (p .condition) false
-    && sameList (differing 0 (askedIn (p .row) (p .holds)) (askedIn (p .row) (p .fails))) (p .condition ∷ p .bound)
+    && not (getD (askedIn (p .row) (p .fails)) (p .condition) true)
+    && sameList (others (p .condition) (differing 0 (askedIn (p .row) (p .holds)) (askedIn (p .row) (p .fails)))) (p .bound)
 
--- the conditions that a table shows of each row, and those there are
+-- the conditions that a table shows of a row
 unfoldable pub shownOf : ℕ → List Pair → List ℕ
 shownOf row [] = []
 shownOf row (p ∷ ps) = cond (eqb (p .row) row) (p .condition ∷ shownOf row ps) (shownOf row ps)
+
+-- the places of a list, counted from k on
+unfoldable pub placesOf : ℕ → List Bool → List ℕ
+placesOf k [] = []
+placesOf k (x ∷ xs) = k ∷ placesOf (suc k) xs
+
+-- a table shows each condition of a row once, in their order; how many there are doesn't depend on what is seen
+unfoldable pub complete : List Pair → ℕ → Bool
+complete table row = sameList (shownOf row table) (placesOf 0 (asks row (see (start 1 0) (inputOf row 0 0 [] []))))
 
 -- ── How a state is written ──
 -- transfer, access, reserved, tie, movement, pod, tag
