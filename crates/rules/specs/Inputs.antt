@@ -90,9 +90,16 @@ A = 0x41 ∷ []
 abbrev pub B : List ℕ
 B = 0x42 ∷ []
 
--- n letters: a name up to sixteen; of seventeen a record would hold the first sixteen
-abbrev pub letters : ℕ → List ℕ
-letters n = replicate n 0x41
+-- sixteen letters are a name; seventeen are none, though their first sixteen are one
+abbrev pub A16 : List ℕ
+A16 = replicate 16 0x41
+
+abbrev pub A17 : List ℕ
+A17 = replicate 17 0x41
+
+-- the codes of a slot map that wasn't read, and of one that was
+abbrev pub zeros : List ℕ
+zeros = replicate 25 0
 
 abbrev pub threes : List ℕ
 threes = replicate 25 3
@@ -102,9 +109,17 @@ abbrev pub expecting : ℕ → List Input
 expecting zero = []
 expecting (suc n) = CarrierNotification ((0x61 + n) ∷ []) ∷ expecting n
 
+-- a carrier is expected, at whichever port
+abbrev pub announced : List ℕ → List Input
+announced name = CarrierNotification name ∷ []
+
 -- a pod that nobody announced comes to port 1, and its tag reads A
 abbrev pub unannounced : List Input
 unannounced = LoadStart 1 ∷ LoadDone 1 ∷ IdRead 1 A ∷ []
+
+-- the host cancels it, and its port is READY TO UNLOAD
+abbrev pub cancelled : List Input
+cancelled = unannounced ++ CancelCarrier A 1 ∷ []
 
 -- a carrier that was bound comes to port 1, and its tag agrees
 abbrev pub arrived : List ℕ → List Input

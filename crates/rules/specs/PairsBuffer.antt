@@ -1,14 +1,20 @@
 -- Rows 7, 8 and 18, shown condition by condition.
+use Prim.Native.Nat.{ℕ}
 use mathlib.Core.List.{List, [], _∷_, _++_}
 use Rattle.rules.specs.State.{State}
 use Rattle.rules.specs.Seen.{Input}
 use Rattle.rules.specs.Pairs.{Pair, along, standing, pair, port, carrier, state}
-use Rattle.rules.specs.Inputs.{Bind, CarrierNotification, CancelCarrier, CarrierOut, CarrierIn, ChangeServiceStatus, ReserveAtPort}
-use Rattle.rules.specs.Inputs.{LoadStart, LoadFail, MoveIn, Open, UnloadStart, A, B, letters, threes, unannounced, arrived, stored}
+use Rattle.rules.specs.Inputs.{Bind, CarrierOut, CarrierIn, ChangeServiceStatus, ReserveAtPort}
+use Rattle.rules.specs.Inputs.{LoadStart, LoadFail, MoveIn, Open, UnloadStart, A, B, A16, A17, zeros, threes}
+use Rattle.rules.specs.Inputs.{announced, unannounced, cancelled, arrived, stored}
 
--- A comes out of the buffer to port 1
-abbrev out : List Input
-out = stored A 1 ++ CarrierOut A 1 ∷ []
+-- a carrier comes out of the buffer to port 1
+abbrev out : List ℕ → List Input
+out name = stored name 1 ++ CarrierOut name 1 ∷ []
+
+-- B is bound to port 1 and its load fails: tied, and not reserved
+abbrev tiedOnly : List Input
+tiedOnly = Bind 1 B ∷ LoadStart 1 ∷ LoadFail 1 ∷ []
 
 -- A in the buffer, closed and IN ACCESS: no run closes a carrier that is IN ACCESS
 abbrev shutInAccess : State
@@ -16,31 +22,28 @@ shutInAccess = state 1 (port 1 0 0 [] 0 0 0 ∷ []) (carrier A 2 1 0 0 0 0 three
 
 -- A expected, though it came out to its port: no run has an expected carrier come out
 abbrev outUnplaced : State
-outUnplaced = state 1 (port 2 0 0 A 0 1 1 ∷ []) (carrier A 0 0 1 0 0 1 threes 3 1 1 ∷ [])
+outUnplaced = state 1 (port 2 0 0 A 0 1 1 ∷ []) (carrier A 0 0 1 0 0 1 zeros 3 1 1 ∷ [])
 
 -- A at an idle BLOCKED port without a pod: no run loses the pod there
 abbrev podless : State
-podless = state 1 (port 3 0 0 A 0 0 1 ∷ []) (carrier A 1 0 1 0 0 0 threes 3 1 1 ∷ [])
+podless = state 1 (port 3 0 0 A 0 0 1 ∷ []) (carrier A 1 0 1 0 0 0 zeros 3 1 1 ∷ [])
 
--- a pod at a port tied to A, which is expected with ID OK: runs give an ID status to placed carriers only
+-- a pod at a port tied to A, which is expected with ID OK: on runs the ID of an expected carrier is NOT READ
 abbrev unplaced : State
-unplaced = state 1 (port 3 0 0 A 0 1 0 ∷ []) (carrier A 0 0 1 0 0 0 threes 3 1 1 ∷ [])
+unplaced = state 1 (port 3 0 0 A 0 1 0 ∷ []) (carrier A 0 0 1 0 0 0 zeros 3 1 1 ∷ [])
 
 abbrev pub bufferPairs : List Pair
 bufferPairs =
     -- 7. CarrierOut: a name
-    pair 7 0 (along 1 1 (stored (letters 16) 1) (CarrierOut (letters 16) 1)) 0
-    (along 1 1 (stored (letters 16) 1) (CarrierOut (letters 17) 1)) 1
+    pair 7 0 (along 1 1 (stored A16 1) (CarrierOut A16 1)) 0 (along 1 1 (stored A16 1) (CarrierOut A17 1)) 1
     -- a port of the tool
-    ∷ pair 7 1 (along 1 1 (stored A 1 ++ ChangeServiceStatus 1 0 ∷ []) (CarrierOut A 1)) 5
-    (along 1 1 (stored A 1 ++ ChangeServiceStatus 1 0 ∷ []) (CarrierOut A 2)) 1
+    ∷ pair 7 1 (along 1 1 (ChangeServiceStatus 1 0 ∷ []) (CarrierOut A 1)) 2 (along 1 1 (ChangeServiceStatus 1 0 ∷ []) (CarrierOut A 2)) 1
     -- the name has a record
-    ∷ pair 7 2 (along 1 1 (CarrierNotification A ∷ []) (CarrierOut A 1)) 5 (along 1 1 (CarrierNotification B ∷ []) (CarrierOut A 1)) 2
+    ∷ pair 7 2 (along 1 1 (announced A) (CarrierOut A 1)) 5 (along 1 1 (announced B) (CarrierOut A 1)) 2
     -- reserved
     ∷ pair 7 3 (along 1 1 (stored A 1 ++ ReserveAtPort 1 ∷ []) (CarrierOut A 1)) 4 (along 1 1 (stored A 1) (CarrierOut A 1)) 0
     -- tied
-    ∷ pair 7 4 (along 1 1 (stored A 1 ++ Bind 1 B ∷ LoadStart 1 ∷ LoadFail 1 ∷ []) (CarrierOut A 1)) 4
-    (along 1 1 (stored A 1) (CarrierOut A 1)) 0
+    ∷ pair 7 4 (along 1 1 (stored A 1 ++ tiedOnly) (CarrierOut A 1)) 4 (along 1 1 (stored A 1) (CarrierOut A 1)) 0
     -- in the buffer
     ∷ pair 7 5 (along 2 1 (stored A 1) (CarrierOut A 2)) 0 (along 2 1 (arrived A) (CarrierOut A 2)) 5
     -- open
@@ -50,16 +53,15 @@ bufferPairs =
     -- the port READY TO LOAD
     ∷ pair 7 8 (along 1 1 (stored A 1) (CarrierOut A 1)) 0 (along 1 1 (stored A 1 ++ LoadStart 1 ∷ []) (CarrierOut A 1)) 5
     -- 8. CarrierIn: a name
-    ∷ pair 8 0 (along 1 1 (stored (letters 16) 1 ++ CarrierOut (letters 16) 1 ∷ []) (CarrierIn (letters 16))) 0
-    (along 1 1 (stored (letters 16) 1 ++ CarrierOut (letters 16) 1 ∷ []) (CarrierIn (letters 17))) 1
+    ∷ pair 8 0 (along 1 1 (out A16) (CarrierIn A16)) 0 (along 1 1 (out A16) (CarrierIn A17)) 1
     -- it has a record
-    ∷ pair 8 1 (along 1 1 (CarrierNotification A ∷ []) (CarrierIn A)) 5 (along 1 1 (CarrierNotification B ∷ []) (CarrierIn A)) 2
+    ∷ pair 8 1 (along 1 1 (announced A) (CarrierIn A)) 5 (along 1 1 (announced B) (CarrierIn A)) 2
     -- at a port
-    ∷ pair 8 2 (along 1 1 out (CarrierIn A)) 0 (standing outUnplaced (CarrierIn A)) 5
+    ∷ pair 8 2 (along 1 1 (out A) (CarrierIn A)) 0 (standing outUnplaced (CarrierIn A)) 5
     -- its port READY TO UNLOAD
-    ∷ pair 8 3 (along 1 1 out (CarrierIn A)) 0 (along 1 1 (out ++ UnloadStart 1 ∷ []) (CarrierIn A)) 5
+    ∷ pair 8 3 (along 1 1 (out A) (CarrierIn A)) 0 (along 1 1 (out A ++ UnloadStart 1 ∷ []) (CarrierIn A)) 5
     -- came-out on
-    ∷ pair 8 4 (along 1 1 out (CarrierIn A)) 0 (along 1 1 (unannounced ++ CancelCarrier A 1 ∷ []) (CarrierIn A)) 5
+    ∷ pair 8 4 (along 1 1 (out A) (CarrierIn A)) 0 (along 1 1 cancelled (CarrierIn A)) 5
     -- 18. MoveIn: a port of the tool
     ∷ pair 18 0 (along 1 1 [] (MoveIn 1 1)) 5 (along 1 1 [] (MoveIn 2 1)) 1
     -- a place from 1 on
@@ -69,9 +71,9 @@ bufferPairs =
     -- pod present
     ∷ pair 18 3 (along 1 1 (arrived A) (MoveIn 1 1)) 0 (standing podless (MoveIn 1 1)) 5
     -- idle
-    ∷ pair 18 4 (along 1 1 (out ++ CarrierIn A ∷ []) (MoveIn 1 1)) 0 (along 1 1 (out ++ UnloadStart 1 ∷ []) (MoveIn 1 1)) 5
+    ∷ pair 18 4 (along 1 1 (out A ++ CarrierIn A ∷ []) (MoveIn 1 1)) 0 (along 1 1 (out A ++ UnloadStart 1 ∷ []) (MoveIn 1 1)) 5
     -- BLOCKED
-    ∷ pair 18 5 (along 1 1 (out ++ CarrierIn A ∷ []) (MoveIn 1 1)) 0 (along 1 1 out (MoveIn 1 1)) 5
+    ∷ pair 18 5 (along 1 1 (out A ++ CarrierIn A ∷ []) (MoveIn 1 1)) 0 (along 1 1 (out A) (MoveIn 1 1)) 5
     -- a carrier at the port
     ∷ pair 18 6 (along 1 1 (arrived A) (MoveIn 1 1)) 0 (standing unplaced (MoveIn 1 1)) 7
     -- its ID OK
