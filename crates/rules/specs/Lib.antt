@@ -26,3 +26,8 @@ pub mod PairsBooking
 pub mod PairsVerdict
 pub mod PairsBuffer
 pub mod EveryPair
+pub mod PairsService
+pub mod PairsTransfer
+pub mod PairsReading
+pub mod PairsOpening
+pub mod PairsLater
