@@ -10,7 +10,7 @@ use Rattle.lists.proofs.Bools.{clash, and-l, and-r, or-other}
 use Rattle.records.specs.declared.port.Port.{Port}
 use Rattle.records.specs.declared.carrier.Carrier.{Carrier}
 use Rattle.records.specs.Ports.{noPort, idle, blocked, toBlocked, toUnload}
-use Rattle.records.specs.Carriers.{atPort, inBuffer, isOpen, notAccessed, withMap, takenBack}
+use Rattle.records.specs.Carriers.{atPort, inBuffer, isOpen, withMap, takenBack}
 use Rattle.records.specs.Fields.{withOpened, withAccessing}
 use Rattle.rules.specs.declared.row.Seen.{Seen}
 use Rattle.rules.specs.State.{State}
@@ -59,7 +59,7 @@ module _ (s : State) (i : Input) (f : Facts s) where
       at : x .found .place ≢ 2 → canOpen x ≡ true → (x .found .place ≡ 1) × (idle (x .home) ≡ true) × (blocked (x .home) ≡ true)
       at n t =
           let o : (eqb (x .places) 0 && atPort (x .found) && idle (x .home) && blocked (x .home)) ≡ true =
-          or-other (inBuffer (x .found)) _ (and-r (not (isOpen (x .found)) && notAccessed (x .found)) _ t) (ne-eqb (x .found .place) 2 n) in
+          or-other (inBuffer (x .found)) _ (search (and-l, and-r) depth 3) (ne-eqb (x .found .place) 2 n) in
           (eqb-true _ 1 (search (and-l, and-r) depth 5), search (and-l, and-r) depth 5, search (and-l, and-r) depth 5)
 
   pub slot-map-keeps : Good s (slotMap x)

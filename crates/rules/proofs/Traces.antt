@@ -15,7 +15,7 @@ use Rattle.records.specs.declared.carrier.Carrier.{Carrier}
 use Rattle.records.specs.Names.{inBytes, sameName}
 use Rattle.records.specs.Ports.{readyToUnload}
 use Rattle.records.specs.Carriers.{noCarrier, newCarrier, isOpen, isCancelled, atPort, idWaits, idOk, slotWaits, slotOk}
-use Rattle.records.specs.Carriers.{slotFailed, placedAt, proceeded, judgedNo, cancelledBy}
+use Rattle.records.specs.Carriers.{placedAt, proceeded, judgedNo, cancelledBy}
 use Rattle.records.specs.Fields.{withId}
 use Rattle.rules.specs.declared.row.Seen.{Seen}
 use Rattle.rules.specs.declared.row.Effect.{Effect}
@@ -335,7 +335,7 @@ module _ (s : State) (i : Input) (h : sound s ≡ true) (a : eqb (answerIn s i) 
         let k = clear (openRow x .grounds) refl e in
         let o = k .1 .1 .1 .0 in
         let v = not-false (idOk (x .found)) (or-false-l _ _ (or-false-l _ _ o)) in
-        let w = or-false-r (not (idOk (x .found)) || slotFailed (x .found)) _ o in
+        let w : isCancelled (x .found) ≡ false = search (or-false-r) depth 2 in
         named-changes 19 _ _ _ (λ m. refl) (record {
           ident = same-id refl refl;
           lid = record { opens = λ _. inr (v, w); openOk = λ _ z. z; uncancelled = λ z. (z, refl) };
