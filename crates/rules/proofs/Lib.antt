@@ -29,3 +29,4 @@ pub mod Promised
 pub mod Afresh
 pub mod Pairs
 pub mod PairsLater
+pub mod Asked
