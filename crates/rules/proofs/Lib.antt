@@ -28,5 +28,4 @@ pub mod Earned
 pub mod Promised
 pub mod Afresh
 pub mod Pairs
-pub mod PairsLater
 pub mod Asked

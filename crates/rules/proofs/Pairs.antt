@@ -17,8 +17,8 @@ use Rattle.rules.specs.Outcome.{answerIn, stateAfter}
 use Rattle.rules.specs.Run.{run}
 use Rattle.rules.specs.Reachable.{smooth}
 use Rattle.rules.specs.Conditions.{asks}
-use Rattle.rules.specs.Pairs.{differing, others, answered, shows, shownOf, placesOf, complete}
-use Rattle.rules.specs.EveryPair.{pairs, shownRows}
+use Rattle.rules.specs.Pairs.{differing, others, answered, shows, shownOf, allBelow, complete}
+use Rattle.rules.specs.EveryPair.{pairs, allRows}
 
 pub pairs-show : every shows pairs ≡ true
 unfolding every everyTwo any howMany whereIs without fill sameList isName inBytes sameName headOr0 zeroEnded holdsName isMap inMap
@@ -28,6 +28,7 @@ unfolding every everyTwo any howMany whereIs without fill sameList isName inByte
     elsewhere matching displaced rowOf answerIn stateAfter run smooth asks differing others answered shows
 pairs-show = refl
 
-pub pairs-complete : every (complete pairs) shownRows ≡ true
-unfolding every sameList asks shownOf placesOf complete
+-- no condition of any row is left out
+pub pairs-complete : every (complete pairs) allRows ≡ true
+unfolding every any asks shownOf allBelow complete
 pairs-complete = refl

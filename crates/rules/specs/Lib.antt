@@ -25,9 +25,8 @@ pub mod Pairs
 pub mod PairsBooking
 pub mod PairsVerdict
 pub mod PairsBuffer
-pub mod EveryPair
 pub mod PairsService
 pub mod PairsTransfer
 pub mod PairsReading
 pub mod PairsOpening
-pub mod PairsLater
+pub mod EveryPair

@@ -1,10 +1,10 @@
 -- A condition of a row is shown by a pair of cases that differ in it alone and get different answers.
-use Prim.Native.Nat.{ℕ, suc}
+use Prim.Native.Nat.{ℕ, zero, suc}
 use mathlib.Core.Bool.{Bool, true, false, not, cond, _&&_}
 use mathlib.Core.List.{List, [], _∷_}
-use lib.ListN.{getD}
+use lib.ListN.{length, getD}
 use lib.Dec.{eqb}
-use Rattle.lists.specs.Lists.{sameList}
+use Rattle.lists.specs.Lists.{any, sameList}
 use Rattle.records.specs.declared.port.Port.{Port}
 use Rattle.records.specs.declared.carrier.Carrier.{Carrier}
 use Rattle.records.specs.Names.{inBytes}
@@ -85,14 +85,14 @@ unfoldable pub shownOf : ℕ → List Pair → List ℕ
 shownOf row [] = []
 shownOf row (p ∷ ps) = cond (eqb (p .row) row) (p .condition ∷ shownOf row ps) (shownOf row ps)
 
--- the places of a list, counted from k on
-unfoldable pub placesOf : ℕ → List Bool → List ℕ
-placesOf k [] = []
-placesOf k (x ∷ xs) = k ∷ placesOf (suc k) xs
+-- each number below n is in the list
+unfoldable pub allBelow : ℕ → List ℕ → Bool
+allBelow zero l = true
+allBelow (suc n) l = any (eqb n) l && allBelow n l
 
--- a table shows each condition of a row once, in their order; how many there are doesn't depend on what is seen
+-- each of the conditions that a row asks is shown by a pair of the table; how many they are doesn't depend on what is seen
 unfoldable pub complete : List Pair → ℕ → Bool
-complete table row = sameList (shownOf row table) (placesOf 0 (asks row (see (start 1 0) (inputOf row 0 0 [] []))))
+complete table row = allBelow (length (asks row (see (start 1 0) (inputOf row 0 0 [] [])))) (shownOf row table)
 
 -- ── How a state is written ──
 -- transfer, access, reserved, tie, movement, pod, tag
