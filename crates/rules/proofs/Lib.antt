@@ -29,3 +29,6 @@ pub mod Promised
 pub mod Afresh
 pub mod Pairs
 pub mod Asked
+pub mod Effects
+pub mod Clauses
+pub mod Edges

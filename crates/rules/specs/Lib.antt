@@ -30,3 +30,6 @@ pub mod PairsTransfer
 pub mod PairsReading
 pub mod PairsOpening
 pub mod EveryPair
+pub mod Effects
+pub mod Clauses
+pub mod Edges
