@@ -5,6 +5,7 @@
   mutants.py run              try the sample; --resume takes up a run that was stopped
   mutants.py table            what the last run found, as tables
   mutants.py try TEXT         try the mutants whose diff has the text, in the sample or not; the log stays as it is
+  .. --theorems               the same of document 01's definitions, refused by theorems about them alone
 """
 
 import argparse
@@ -18,12 +19,14 @@ import threading
 sys.dont_write_bytecode = True
 sys.path.insert(0, os.path.dirname(os.path.abspath(__file__)))
 
-from sample import Sources, drawn, shares  # noqa: E402
-from scratch import Scratch  # noqa: E402
+from sample import Sources, drawn, is_table, shares  # noqa: E402
+from scratch import Scratch, crates_in_order  # noqa: E402
 from tables import tables  # noqa: E402
 from try_one import try_mutant  # noqa: E402
 
 SEED = "870312"
+# The crate whose theorems hold document 01's definitions, and another seed for what is asked of them alone.
+THEOREMS, THEOREMS_SEED = "rules", "210921"
 REPO = os.path.dirname(os.path.dirname(os.path.abspath(__file__)))
 
 
@@ -36,24 +39,38 @@ def arguments():
     parser.add_argument("--definitions", type=int, default=55, metavar="N", help="at least N definition mutants (55)")
     parser.add_argument("--least", type=int, default=3, metavar="N", help="at least N of each crate (3)")
     parser.add_argument("--crate", help="this crate alone")
+    parser.add_argument("--theorems", action="store_true", help="definitions against theorems about them, without any code")
     parser.add_argument("--resume", action="store_true", help="keep what the log has")
     parser.add_argument("--jobs", type=int, default=1, metavar="N", help="workers, each with its own copy (1)")
     parser.add_argument("--limit", type=int, default=600, metavar="S", help="seconds for a check (600)")
     parser.add_argument("--inputs", type=int, default=100000, metavar="N", help="inputs of a comparison (100000)")
-    work = os.path.join(REPO, "target", "mutants")
-    parser.add_argument("--work", default=work, help="copies and log (target/mutants)")
-    return parser.parse_intermixed_args()
+    parser.add_argument("--work", help="copies and log (target/mutants, with --theorems target/theorems)")
+    options = parser.parse_intermixed_args()
+    options.top = THEOREMS if options.theorems else None
+    options.seed = THEOREMS_SEED if options.theorems else SEED
+    options.work = options.work or os.path.join(REPO, "target", "theorems" if options.theorems else "mutants")
+    return options
 
 
 def plan(sources, options):
     """For each layer and crate: how many are wanted, and the mutants in the order in which they are drawn."""
+    if options.theorems:
+        return theorems_plan(sources, options)
     found = []
     for layer, total in (("code", options.code), ("definition", options.definitions)):
         mutants = [mutant for mutant in sources.mutants() if mutant.layer == layer]
         for crate, share in shares(mutants, total, options.least).items():
             if options.crate in (None, crate):
-                found.append((share, drawn([mutant for mutant in mutants if mutant.crate == crate], SEED)))
+                found.append((share, drawn([mutant for mutant in mutants if mutant.crate == crate], options.seed)))
     return found
+
+
+def theorems_plan(sources, options):
+    """The definitions that theorems have to hold: those of the crate and of the crates below, its tables apart."""
+    crates = [*crates_in_order(REPO)[THEOREMS], THEOREMS]
+    mutants = [m for m in sources.mutants() if m.layer == "definition" and m.crate in crates and not is_table(m.file)]
+    given = shares(mutants, options.definitions, options.least)
+    return [(given[crate], drawn([m for m in mutants if m.crate == crate], options.seed)) for crate in crates]
 
 
 def show_list(sources, options):
@@ -73,14 +90,14 @@ class Run:
         os.makedirs(os.path.join(options.work, "said"), exist_ok=True)
         if not self.done:
             with open(self.path, "w", encoding="utf-8") as file:
-                file.write(json.dumps({"sources": sources.digest(), "seed": SEED}) + "\n")
+                file.write(json.dumps({"sources": sources.digest(), "seed": options.seed}) + "\n")
         for share, mutants in plan(sources, options):
             self.left.put((share, mutants))
 
     def read_log(self):
         with open(self.path, encoding="utf-8") as file:
             head, *lines = [json.loads(line) for line in file]
-        if head != {"sources": self.sources.digest(), "seed": SEED}:
+        if head != {"sources": self.sources.digest(), "seed": self.options.seed}:
             raise SystemExit("mutants: the log is of other sources; run without --resume")
         return {line["key"]: line for line in lines}
 
@@ -106,7 +123,7 @@ class Run:
 
     def work(self, number):
         try:
-            scratch = Scratch(REPO, os.path.join(self.options.work, f"worker{number}"), self.options.limit)
+            scratch = Scratch(REPO, os.path.join(self.options.work, f"worker{number}"), self.options.limit, self.options.top)
             scratch.prepare(lambda words: print(f"as it is, {words}", flush=True))
             while True:
                 self.try_crate(scratch, *self.left.get_nowait())
@@ -128,7 +145,7 @@ def try_some(sources, options):
         raise SystemExit("mutants: no mutant has that text; see `mutants.py list --all`")
     folder = os.path.join(options.work, "tried")
     os.makedirs(folder, exist_ok=True)
-    scratch = Scratch(REPO, folder, options.limit)
+    scratch = Scratch(REPO, folder, options.limit, options.top)
     scratch.prepare(lambda words: print(f"as it is, {words}", flush=True))
     for mutant in found:
         show(try_mutant(scratch, sources, mutant, os.path.join(folder, "said.txt"), options.inputs))

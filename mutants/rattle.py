@@ -1,5 +1,6 @@
 """What a Rattle file declares: its structs, and its functions with their parameters and the tokens of their bodies."""
 
+import re
 from dataclasses import dataclass, field
 
 from tokens import RATTLE, group_end, spelled, split, tokens
@@ -92,3 +93,14 @@ def without_clauses(body):
             kept.append(body[i])
             i += 1
     return kept
+
+
+# As `rt fmt` lays a file out: an item of several lines begins and ends at its left edge.
+CODE_ITEM = re.compile(
+    r"^(?:impl .*|(?:pub )?(?:extern \S+ )?fn .*)\n(?:.*\n)*?\}\n|^ghost use .*\n|^use .*::[a-z_]+;\n", re.MULTILINE
+)
+
+
+def without_code(text):
+    """A file without its functions: its structs and modules, which the definitions speak of."""
+    return CODE_ITEM.sub("", text)

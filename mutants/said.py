@@ -14,6 +14,11 @@ COMPUTED = {
     "TwelveRows.antt": "the twelve rows",
     "EveryRow.antt": "the run through every row",
     "Reachable.antt": "the reachable answers",
+    "Pairs.antt": "the pairs",
+    "PairsInside.antt": "the pairs",
+    "Effects.antt": "the effects",
+    "Clauses.antt": "the clauses",
+    "Edges.antt": "the edges",
 }
 # A crate below is not proved, so that this one wasn't checked.
 BELOW = "rt: FAILED:"

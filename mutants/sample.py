@@ -11,6 +11,14 @@ from definition_operators import Right
 from operators import KINDS
 
 
+# Files of rules/specs that are tables of cases and what they need: a definition is tried against them, and they aren't definitions.
+TABLES = ("Inputs", "TwelveRows", "EveryRow", "Reachable", "Conditions", "Pairs", "Effects", "Clauses", "Edges")
+
+
+def is_table(file):
+    return os.path.basename(file).startswith(TABLES)
+
+
 class Sources:
     """The files that may be changed, by their names from the top of the repository."""
 

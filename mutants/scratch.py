@@ -8,6 +8,7 @@ import shutil
 import signal
 import subprocess
 
+from rattle import without_code
 from said import Said, heard
 
 KEPT = ("rlib", "stamp", "inc", "log")
@@ -34,10 +35,13 @@ def standing_on(crate, deps):
 
 
 class Scratch:
-    def __init__(self, repo, folder, limit):
-        self.repo, self.limit = repo, limit
+    def __init__(self, repo, folder, limit, top=None):
+        """`top`: the copy has this crate and those below it, without their code, so that theorems alone can refuse."""
+        self.repo, self.limit, self.top = repo, limit, top
         self.root, self.pristine = os.path.join(folder, "tree"), os.path.join(folder, "pristine")
         self.deps = crates_in_order(repo)
+        if top:
+            self.deps = {name: self.deps[name] for name in self.deps if name in [*self.deps[top], top]}
         self.above, self.touched, self.lean = [], set(), ""
         self.process = None
         atexit.register(self.stop)
@@ -48,6 +52,8 @@ class Scratch:
         shutil.rmtree(self.pristine, ignore_errors=True)
         left_out = {"target", ".git", "__pycache__"}
         shutil.copytree(self.repo, self.root, ignore=lambda folder, names: left_out & set(names))
+        if self.top:
+            self.take_code_away()
         for part in KEPT:
             source = os.path.join(self.repo, "target", part)
             if os.path.isdir(source):
@@ -58,6 +64,23 @@ class Scratch:
             if verdict != "proved":
                 raise SystemExit(f"mutants: {crate} is not proved as it is, so that nothing can be said of its mutants")
         shutil.copytree(os.path.join(self.root, "target"), self.pristine)
+
+    def take_code_away(self):
+        """Only the crates that count, their structs, and the proofs that belong to no function."""
+        with open(os.path.join(self.root, "crates.txt"), "w", encoding="utf-8") as file:
+            file.write("".join(f"{name}: {' '.join(below)}\n" for name, below in self.deps.items()))
+        for name in os.listdir(os.path.join(self.root, "crates")):
+            folder = os.path.join(self.root, "crates", name)
+            if name not in self.deps:
+                shutil.rmtree(folder)
+                continue
+            for path in glob.glob(os.path.join(folder, "src", "*.rt")):
+                with open(path, encoding="utf-8") as file:
+                    text = file.read()
+                with open(path, "w", encoding="utf-8") as file:
+                    file.write(without_code(text))
+            for path in glob.glob(os.path.join(folder, "proofs", "**", "Proof.antt"), recursive=True):
+                os.remove(path)
 
     def with_change(self, mutant, text):
         self.above, self.touched, self.lean = standing_on(mutant.crate, self.deps), set(), ""

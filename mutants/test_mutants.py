@@ -13,7 +13,7 @@ from code_operators import Body  # noqa: E402
 from definition_operators import Right  # noqa: E402
 from operators import Mutant  # noqa: E402
 from said import heard, noticed_by  # noqa: E402
-from sample import drawn  # noqa: E402
+from sample import drawn, is_table  # noqa: E402
 
 CODE = """// A comment with 1 + 2.
 ghost use lib.Dec.{ltb};
@@ -106,6 +106,21 @@ class Changes(unittest.TestCase):
         orders = [[m.key for m in drawn(code_mutants(), seed)] for seed in ("1", "1", "2")]
         self.assertEqual(orders[0], orders[1])
         self.assertNotEqual(orders[0], orders[2])
+
+
+class Theorems(unittest.TestCase):
+    def test_a_file_without_its_code_has_its_structs(self):
+        text = (
+            "// A pod.\nghost use lib.Dec.{ltb};\nuse crate::choose::first;\nuse crate::name::Name;\n\n"
+            "pub struct Pod {\n    pub name: Name,\n}\n\nimpl Pod {\n    fn here(self) -> bool {\n        true\n    }\n}\n\n"
+            "pub fn told(p: Pod) -> u8\n    ensures { λ r. ⌜ r ≤ 7 ⌝ }\n{\n    1\n}\n"
+        )
+        left = "// A pod.\nuse crate::name::Name;\n\npub struct Pod {\n    pub name: Name,\n}\n\n\n"
+        self.assertEqual(rattle.without_code(text), left)
+
+    def test_tables_are_no_definitions(self):
+        self.assertTrue(is_table("crates/rules/specs/PairsBuffer.antt"))
+        self.assertFalse(is_table("crates/rules/specs/Buffer.antt"))
 
 
 class Words(unittest.TestCase):

@@ -9,7 +9,7 @@ from said import noticed_by
 def try_mutant(scratch, sources, mutant, log, inputs):
     """What became of it, as a plain dictionary for the log."""
     text = sources.texts[mutant.file]
-    with_code = {name.split("/")[1] for name, module in sources.code.items() if module.functions}
+    with_code = {name.split("/")[1] for name, module in sources.code.items() if module.functions and not scratch.top}
     began = time.monotonic()
     open(log, "w").close()
     try:
@@ -55,6 +55,8 @@ def check_definition(scratch, mutant, log, with_code):
 
 def ask_the_code(scratch, crate, said, noticed, log, with_code):
     """A theorem that isn't computed may be refused for its text alone: then the code's proofs are asked too."""
+    if scratch.top:
+        return []
     refused = {os.path.basename(file).removesuffix(".antt") for file, _, _ in said.errors}
     if noticed != ["the promises"] or not scratch.leave_out_theorems(crate, refused):
         return []
