@@ -20,6 +20,7 @@ use Rattle.rules.specs.Row.{Row, judge}
 use Rattle.rules.specs.Rows.{rowOf}
 use Rattle.rules.specs.Reports.{reportIf, change, tieNumber, differences}
 use Rattle.rules.specs.Outcome.{rowIn, answerIn, stateAfter}
+use Rattle.rules.proofs.Walk.{walk}
 use Rattle.rules.proofs.Lowest.{row-first-is-lowest}
 use Rattle.rules.proofs.SoundFacts.{few-ports, distinct}
 use Rattle.rules.proofs.Apt.{apt}
@@ -90,27 +91,42 @@ data Small (s : State) (r : Row) : Type 0 where
       → portOf s (r .effect .port) .access ≡ r .effect .becomes .access
       → portOf s (r .effect .port) .reserved ≡ r .effect .becomes .reserved → Small s r
 
-one-of : {s : State} {r q : Row} (b : Bool) → Small s r → Small s q → Small s (cond b r q)
-one-of true f g = f
-one-of false f g = g
-
 module _ (s : State) (i : Input) where
   counted : length (s .carriers) ≤ see s i .count
   unfolding see
   counted = omega arith
 
   rows-small : (n : ℕ) → Small s (rowOf n (see s i))
-  unfolding rowOf see
-  rows-small n =
-      one-of (eqb n 1) (noneGoes counted) (one-of (eqb n 2) (noneChanges counted refl) (one-of (eqb n 3) (noneGoes counted)
-      (one-of (eqb n 4) (noneChanges counted refl) (one-of (eqb n 5) (noneGoes counted) (one-of (eqb n 6) (noneGoes counted)
-      (one-of (eqb n 7) (noneGoes counted) (one-of (eqb n 8) (noneGoes counted) (one-of (eqb n 9) (noneGoes counted)
-      (one-of (eqb n 10) (noneGoes counted) (one-of (eqb n 11) (noneGoes counted) (one-of (eqb n 12) (noneGoes counted)
-      (one-of (eqb n 13) (noneGoes counted) (one-of (eqb n 14) (noneGoes counted) (one-of (eqb n 15) (noneGoes counted)
-      (one-of (eqb n 16) (onlyTie refl refl refl) (one-of (eqb n 17) (noneGoes counted) (one-of (eqb n 18) (noneGoes counted)
-      (one-of (eqb n 19) (noneGoes counted) (one-of (eqb n 20) (noneGoes counted) (one-of (eqb n 21) (noneGoes counted)
-      (one-of (eqb n 22) (noneGoes counted) (one-of (eqb n 23) (noneGoes counted) (one-of (eqb n 24) (noneGoes counted)
-      (one-of (eqb n 25) (noneChanges counted refl) (one-of (eqb n 26) (noneGoes counted) (noneGoes counted))))))))))))))))))))))))))
+  unfolding see
+  rows-small = walk (λ _. Small s) (see s i) (record {
+    bind = noneGoes counted;
+    cancelBind = noneChanges counted refl;
+    carrierNotification = noneGoes counted;
+    cancelCarrierNotification = noneChanges counted refl;
+    proceedWithCarrier = noneGoes counted;
+    cancelCarrier = noneGoes counted;
+    carrierOut = noneGoes counted;
+    carrierIn = noneGoes counted;
+    changeAccess = noneGoes counted;
+    changeServiceStatus = noneGoes counted;
+    reserveAtPort = noneGoes counted;
+    cancelReservationAtPort = noneGoes counted;
+    loadStart = noneGoes counted;
+    loadDone = noneGoes counted;
+    loadFail = noneGoes counted;
+    idRead = onlyTie refl refl refl;
+    idReadFailed = noneGoes counted;
+    moveIn = noneGoes counted;
+    openRow = noneGoes counted;
+    slotMap = noneGoes counted;
+    accessStart = noneGoes counted;
+    accessEnd = noneGoes counted;
+    closeRow = noneGoes counted;
+    unloadStart = noneGoes counted;
+    unloadDone = noneChanges counted refl;
+    unloadFail = noneGoes counted;
+    none = λ _. noneGoes counted;
+  })
 
 -- what an effect touches, in numbers
 module _ (s : State) (r : Row) where

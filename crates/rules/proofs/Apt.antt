@@ -29,7 +29,7 @@ use Rattle.rules.specs.Transfer.{loadStart, loadDone, loadFail, unloadSt
 use Rattle.rules.specs.Reading.{displaced, idRead, idReadFailed}
 use Rattle.rules.specs.Opening.{openRow, slotMap, accessStart, accessEnd, leavesPort, closeRow}
 use Rattle.rules.specs.Rows.{rowOf}
-use Rattle.rules.proofs.Accepts.{clear}
+use Rattle.rules.proofs.Accepts.{Clear, walk-accepting, never}
 use Rattle.rules.proofs.SoundFacts.{port-fits, placed-tied}
 
 pub record Apt (s : State) (e : Effect) : Type 0 where
@@ -87,14 +87,6 @@ module _ (s : State) where
     fresh = λ e. clash e refl;
     none = λ _ l. absurd (omega arith);
   }
-
--- where a row accepts
-record Fine (s : State) (r : Row) : Type 0 where
-  pub fine : judge (r .grounds) ≡ 0 → Apt s (r .effect)
-
-one-of : {s : State} {r q : Row} (b : Bool) → Fine s r → Fine s q → Fine s (cond b r q)
-one-of true f g = f
-one-of false f g = g
 
 module _ (s : State) (i : Input) (h : sound s ≡ true) where
   abbrev x : Seen
@@ -183,39 +175,19 @@ module _ (s : State) (i : Input) (h : sound s ≡ true) where
   stands-not-count u z = let b = stands-in u in omega arith
 
   -- ── Row by row ──
-  bind-apt : Fine s (bind x)
-  unfolding see
-  bind-apt = record {
-    fine = λ e.
-        let k = clear (bind x .grounds) refl e in
-        new-apt (x .port) _ _ (given-port (k .0) _) (k .1 .1 .0) refl;
-  }
+  abbrev Fine : Row → Type 0
+  Fine r = Clear (r .grounds) → Apt s (r .effect)
 
-  cancel-bind-apt : Fine s (cancelBind x)
+  cancel-bind-apt : Fine (cancelBind x)
   unfolding see meant onePair
-  cancel-bind-apt = record {
-    fine = λ e.
-        let k = clear (cancelBind x .grounds) refl e in
-        let n : not (untied (meant x)) ≡ true = let o = k .1 .1 .1 .1 .0 in search (and-l, and-r) depth 5 in
-        let z = eqb-false (meant x .port) 0 (not-true _ n) in
-        port-apt s (meant x .port) _ (meantStands x) (still-in s (meant x .port) _ (omega arith) (fits (x .blank)));
-  }
+  cancel-bind-apt k =
+      let n : not (untied (meant x)) ≡ true = let o = k .1 .1 .1 .1 .0 in search (and-l, and-r) depth 5 in
+      let z = eqb-false (meant x .port) 0 (not-true _ n) in
+      port-apt s (meant x .port) _ (meantStands x) (still-in s (meant x .port) _ (omega arith) (fits (x .blank)))
     where
       fits : (w : Bool) → cond w (x .held) (x .found) .port ≤ length (s .ports)
       fits true = port-fits s h (x .holds)
       fits false = port-fits s h (x .stands)
-
-  carrier-notification-apt : Fine s (carrierNotification x)
-  unfolding see
-  carrier-notification-apt = record {
-    fine = λ e.
-        let k = clear (carrierNotification x .grounds) refl e in
-        new-apt 0 noPort _ (still-none s) (k .1 .0) refl;
-  }
-
-  cancel-carrier-notification-apt : Fine s (cancelCarrierNotification x)
-  unfolding see
-  cancel-carrier-notification-apt = record { fine = λ e. port-apt s 0 noPort (x .stands) (still-none s) }
 
   -- a placed carrier leaves its port as it is, any other goes to the port given
   pod-port : (w : Bool) → (w ≡ false → x .isport ≡ true) → (q : Port) → Still s (cond w 0 (x .port)) (cond w noPort q)
@@ -242,27 +214,21 @@ module _ (s : State) (i : Input) (h : sound s ≡ true) where
   unfolding placed
   not-placed-new e = rw e
 
-  proceed-with-carrier-apt : Fine s (proceedWithCarrier x)
-  proceed-with-carrier-apt = record {
-    fine = λ e.
-        let k = clear (proceedWithCarrier x .grounds) refl e in
-        named-apt _ _ (x .count) _ (pod-port (placed x) (pod-given (k .1 .1 .0) (k .1 .1 .1 .0)) _) stands-not-count
-        (kept (placed x)) (λ u. rw (not-placed-new u) (new-name u));
-  }
+  proceed-with-carrier-apt : Fine (proceedWithCarrier x)
+  proceed-with-carrier-apt k =
+      named-apt _ _ (x .count) _ (pod-port (placed x) (pod-given (k .1 .1 .0) (k .1 .1 .1 .0)) _) stands-not-count
+      (kept (placed x)) (λ u. rw (not-placed-new u) (new-name u))
     where
       kept : (w : Bool) → x .known ≡ true
           → cond w (proceeded (x .found)) (withId 3 (placedAt (x .port) (foundOrNew x))) .name ≡ x .found .name
       kept true u = refl
       kept false u = found-name u
 
-  cancel-carrier-apt : Fine s (cancelCarrier x)
+  cancel-carrier-apt : Fine (cancelCarrier x)
   unfolding cancelAt failed
-  cancel-carrier-apt = record {
-    fine = λ e.
-        let k = clear (cancelCarrier x .grounds) refl e in
-        named-apt _ _ (x .count) _ (at (eqb (cancelAt x) 0) refl (fits (placed x) refl (pod-given (k .1 .1 .0) (k .1 .1 .1 .0))))
-        stands-not-count (kept (placed x)) (λ u. rw (not-placed-new u) (new-name u));
-  }
+  cancel-carrier-apt k =
+      named-apt _ _ (x .count) _ (at (eqb (cancelAt x) 0) refl (fits (placed x) refl (pod-given (k .1 .1 .0) (k .1 .1 .1 .0))))
+      stands-not-count (kept (placed x)) (λ u. rw (not-placed-new u) (new-name u))
     where
       fits : (w : Bool) → placed x ≡ w → (placed x ≡ false → x .isport ≡ true)
           → cond w (cond (atPort (x .found)) (x .found .port) 0) (x .port) ≤ length (s .ports)
@@ -283,78 +249,31 @@ module _ (s : State) (i : Input) (h : sound s ≡ true) where
       kept true u = refl
       kept false u = found-name u
 
-  carrier-out-apt : Fine s (carrierOut x)
-  unfolding see recordOf
-  carrier-out-apt = record {
-    fine = λ e.
-        let k = clear (carrierOut x .grounds) refl e in
-        both-apt s (x .port) _ (x .stands) _ (given-port (k .1 .0) _) (stands-in (k .1 .1 .0)) refl;
-  }
-
-  carrier-in-apt : Fine s (carrierIn x)
-  carrier-in-apt = record {
-    fine = λ e.
-        let k = clear (carrierIn x .grounds) refl e in
-        stands-both (x .found .port) _ _ (k .1 .0) (found-port (k .1 .0) (let o = k .1 .1 .0 in search (and-l, and-r) depth 5) _) refl;
-  }
-
-  change-access-apt : Fine s (changeAccess x)
-  change-access-apt = record { fine = λ e. given-apt (clear (changeAccess x .grounds) refl e .0) _ _ }
-
-  change-service-status-apt : Fine s (changeServiceStatus x)
-  change-service-status-apt = record { fine = λ e. given-apt (clear (changeServiceStatus x .grounds) refl e .0) _ _ }
-
-  reserve-at-port-apt : Fine s (reserveAtPort x)
-  reserve-at-port-apt = record { fine = λ e. given-apt (clear (reserveAtPort x .grounds) refl e .0) _ _ }
-
-  cancel-reservation-at-port-apt : Fine s (cancelReservationAtPort x)
-  cancel-reservation-at-port-apt = record { fine = λ e. given-apt (clear (cancelReservationAtPort x .grounds) refl e .0) _ _ }
-
-  load-start-apt : Fine s (loadStart x)
-  load-start-apt = record { fine = λ e. given-apt (clear (loadStart x .grounds) refl e .0) _ _ }
-
-  load-done-apt : Fine s (loadDone x)
-  load-done-apt = record { fine = λ e. given-apt (clear (loadDone x .grounds) refl e .0) _ _ }
-
-  load-fail-apt : Fine s (loadFail x)
-  load-fail-apt = record { fine = λ e. given-apt (clear (loadFail x .grounds) refl e .0) _ _ }
-
-  id-read-apt : Fine s (idRead x)
+  id-read-apt : Fine (idRead x)
   unfolding displaced
-  id-read-apt = record {
-    fine = λ e.
-        let k = clear (idRead x .grounds) refl e in
-        named-apt (x .port) _ (displaced x) _ (given-port (k .0) _) (other (eqb (x .holds) (x .stands)) refl)
-        found-name new-name;
-  }
+  id-read-apt k =
+      named-apt (x .port) _ (displaced x) _ (given-port (k .0) _) (other (eqb (x .holds) (x .stands)) refl) found-name new-name
     where
       other : (w : Bool) → eqb (x .holds) (x .stands) ≡ w → x .known ≡ true → x .stands ≢ cond w (x .count) (x .holds)
       other true q u n = stands-not-count u n
       other false q u n = eqb-false (x .holds) (x .stands) q (sym n)
 
-  id-read-failed-apt : Fine s (idReadFailed x)
+  id-read-failed-apt : Fine (idReadFailed x)
   unfolding see recordOf
-  id-read-failed-apt = record {
-    fine = λ e.
-        let k = clear (idReadFailed x .grounds) refl e in
-        record {
-          still = given-port (k .0) _;
-          apart = λ b z. let d : x .holds < length (s .carriers) = b in let w : x .holds ≡ length (s .carriers) = z in omega arith;
-          named = λ b. rw (lt-ltb (x .holds) (length (s .carriers)) b);
-          lone = λ q. clash q refl;
-          fresh = λ q. clash q refl;
-          none = λ _ b. rw (le-ltb (x .holds) (length (s .carriers)) b);
-        };
+  id-read-failed-apt k = record {
+    still = given-port (k .0) _;
+    apart = λ b z. let d : x .holds < length (s .carriers) = b in let w : x .holds ≡ length (s .carriers) = z in omega arith;
+    named = λ b. rw (lt-ltb (x .holds) (length (s .carriers)) b);
+    lone = λ q. clash q refl;
+    fresh = λ q. clash q refl;
+    none = λ _ b. rw (le-ltb (x .holds) (length (s .carriers)) b);
   }
 
-  move-in-apt : Fine s (moveIn x)
+  move-in-apt : Fine (moveIn x)
   unfolding see recordOf
-  move-in-apt = record {
-    fine = λ e.
-        let k = clear (moveIn x .grounds) refl e in
-        both-apt s (x .port) _ (x .holds) _ (given-port (k .0) _)
-        (is-held (ltb (x .holds) (length (s .carriers))) refl (and-l _ _ (k .1 .1 .1 .0))) refl;
-  }
+  move-in-apt k =
+      both-apt s (x .port) _ (x .holds) _ (given-port (k .0) _)
+      (is-held (ltb (x .holds) (length (s .carriers))) refl (and-l _ _ (k .1 .1 .1 .0))) refl
     where
       -- nothing tied is nothing verified
       is-held : (w : Bool) → ltb (x .holds) (length (s .carriers)) ≡ w
@@ -363,51 +282,42 @@ module _ (s : State) (i : Input) (h : sound s ≡ true) where
       is-held false q v =
           clash (rw (List·getD-eq-default (s .carriers) noCarrier (ltb-false (x .holds) (length (s .carriers)) q)) at v) refl
 
-  open-apt : Fine s (openRow x)
-  open-apt = record { fine = λ e. stands-both 0 noPort _ (clear (openRow x .grounds) refl e .1 .0) (still-none s) refl }
-
-  slot-map-apt : Fine s (slotMap x)
-  slot-map-apt = record { fine = λ e. stands-both 0 noPort _ (clear (slotMap x .grounds) refl e .1 .1 .0) (still-none s) refl }
-
-  access-start-apt : Fine s (accessStart x)
-  access-start-apt = record { fine = λ e. stands-both 0 noPort _ (clear (accessStart x .grounds) refl e .1 .0) (still-none s) refl }
-
-  access-end-apt : Fine s (accessEnd x)
-  access-end-apt = record { fine = λ e. stands-both 0 noPort _ (clear (accessEnd x .grounds) refl e .1 .1 .0) (still-none s) refl }
-
-  close-apt : Fine s (closeRow x)
-  close-apt = record {
-    fine = λ e.
-        let k = clear (closeRow x .grounds) refl e in
-        stands-both _ _ _ (k .1 .0) (left (leavesPort x) refl (k .1 .0)) refl;
-  }
+  close-apt : Fine (closeRow x)
+  close-apt k = stands-both _ _ _ (k .1 .0) (left (leavesPort x) refl (k .1 .0)) refl
     where
       left : (w : Bool) → leavesPort x ≡ w → x .known ≡ true → Still s (cond w (x .found .port) 0) (cond w (toUnload (x .home)) noPort)
       left true q u = found-port u (and-l _ _ q) _
       left false q u = still-none s
 
-  unload-start-apt : Fine s (unloadStart x)
-  unload-start-apt = record { fine = λ e. given-apt (clear (unloadStart x .grounds) refl e .0) _ _ }
-
-  unload-done-apt : Fine s (unloadDone x)
-  unload-done-apt = record { fine = λ e. given-apt (clear (unloadDone x .grounds) refl e .0) _ _ }
-
-  unload-fail-apt : Fine s (unloadFail x)
-  unload-fail-apt = record { fine = λ e. given-apt (clear (unloadFail x .grounds) refl e .0) _ _ }
-
-  rows-apt : (n : ℕ) → Fine s (rowOf n x)
-  unfolding rowOf
-  rows-apt n =
-      one-of (eqb n 1) bind-apt (one-of (eqb n 2) cancel-bind-apt (one-of (eqb n 3) carrier-notification-apt
-      (one-of (eqb n 4) cancel-carrier-notification-apt (one-of (eqb n 5) proceed-with-carrier-apt (one-of (eqb n 6) cancel-carrier-apt
-      (one-of (eqb n 7) carrier-out-apt (one-of (eqb n 8) carrier-in-apt (one-of (eqb n 9) change-access-apt
-      (one-of (eqb n 10) change-service-status-apt (one-of (eqb n 11) reserve-at-port-apt (one-of (eqb n 12) cancel-reservation-at-port-apt
-      (one-of (eqb n 13) load-start-apt (one-of (eqb n 14) load-done-apt (one-of (eqb n 15) load-fail-apt
-      (one-of (eqb n 16) id-read-apt (one-of (eqb n 17) id-read-failed-apt (one-of (eqb n 18) move-in-apt
-      (one-of (eqb n 19) open-apt (one-of (eqb n 20) slot-map-apt (one-of (eqb n 21) access-start-apt
-      (one-of (eqb n 22) access-end-apt (one-of (eqb n 23) close-apt (one-of (eqb n 24) unload-start-apt
-      (one-of (eqb n 25) unload-done-apt (one-of (eqb n 26) unload-fail-apt
-      (record { fine = λ e. absurd (omega arith) }))))))))))))))))))))))))))
-
   pub apt : (n : ℕ) → judge (rowOf n x .grounds) ≡ 0 → Apt s (rowOf n x .effect)
-  apt n = rows-apt n .fine
+  unfolding see
+  apt = walk-accepting (λ _. Apt s) x (record {
+    bind = λ k. new-apt (x .port) _ _ (given-port (k .0) _) (k .1 .1 .0) refl;
+    cancelBind = cancel-bind-apt;
+    carrierNotification = λ k. new-apt 0 noPort _ (still-none s) (k .1 .0) refl;
+    cancelCarrierNotification = λ _. port-apt s 0 noPort (x .stands) (still-none s);
+    proceedWithCarrier = proceed-with-carrier-apt;
+    cancelCarrier = cancel-carrier-apt;
+    carrierOut = λ k. stands-both (x .port) _ _ (k .1 .1 .0) (given-port (k .1 .0) _) refl;
+    carrierIn = λ k.
+        stands-both (x .found .port) _ _ (k .1 .0) (found-port (k .1 .0) (let o = k .1 .1 .0 in search (and-l, and-r) depth 5) _) refl;
+    changeAccess = λ k. given-apt (k .0) _ _;
+    changeServiceStatus = λ k. given-apt (k .0) _ _;
+    reserveAtPort = λ k. given-apt (k .0) _ _;
+    cancelReservationAtPort = λ k. given-apt (k .0) _ _;
+    loadStart = λ k. given-apt (k .0) _ _;
+    loadDone = λ k. given-apt (k .0) _ _;
+    loadFail = λ k. given-apt (k .0) _ _;
+    idRead = id-read-apt;
+    idReadFailed = id-read-failed-apt;
+    moveIn = move-in-apt;
+    openRow = λ k. stands-both 0 noPort _ (k .1 .0) (still-none s) refl;
+    slotMap = λ k. stands-both 0 noPort _ (k .1 .1 .0) (still-none s) refl;
+    accessStart = λ k. stands-both 0 noPort _ (k .1 .0) (still-none s) refl;
+    accessEnd = λ k. stands-both 0 noPort _ (k .1 .1 .0) (still-none s) refl;
+    closeRow = close-apt;
+    unloadStart = λ k. given-apt (k .0) _ _;
+    unloadDone = λ k. given-apt (k .0) _ _;
+    unloadFail = λ k. given-apt (k .0) _ _;
+    none = λ _. never;
+  })

@@ -23,7 +23,6 @@ use Rattle.rules.specs.Row.{onBoth, otherPort, placed}
 use Rattle.rules.specs.Booking.{bind, carrierNotification}
 use Rattle.rules.specs.Buffer.{canComeOut, carrierOut, moveIn}
 use Rattle.rules.specs.Reading.{elsewhere, matching, displaced, idRead, idReadFailed}
-use Rattle.rules.proofs.Accepts.{clear}
 use Rattle.rules.proofs.Apt.{Apt}
 use Rattle.rules.proofs.SoundParts.{PortFits, Stands, Fits, Facts}
 use Rattle.rules.proofs.Keep.{Stays, Keeps}
@@ -88,93 +87,81 @@ module _ (s : State) (i : Input) (f : Facts s) where
 
   pub bind-keeps : Good s (bind x)
   unfolding see
-  bind-keeps = record {
-    good = λ e a.
-        let k = clear (bind x .grounds) refl e in
-        let r = given-range s i f (k .0) in
-        let h = f .ports (x .port) in
-        let n = name-fits s i f (k .1 .0) in
-        arrives-keeps s f _ a (record {
-          follows = inl refl;
-          port = marked-fits _ h (h .access) (omega arith) (or-r (sameName (x .name) noName) n) (h .tag);
-          fits = new-fits _ _ (x .name) (x .port) n (r .1);
-          tied = refl;
-          named = refl;
-          shown = λ z. shut z;
-          spot = λ n. absurd (n refl);
-          alone = λ j t. nobody-tied s i f (or-false-r (reserved (x .here)) (x .tied) (k .1 .1 .1 .0)) (r .0) j (t .live);
-          moved = λ b. absurd (omega arith);
-          awaits = λ b. absurd (omega arith);
-          gone = λ b. absurd (omega arith);
-          room = λ _ _. has-room s i f (k .1 .1 .1 .1 .1 .0);
-        });
-  }
+  bind-keeps k a =
+      let r = given-range s i f (k .0) in
+      let h = f .ports (x .port) in
+      let n = name-fits s i f (k .1 .0) in
+      arrives-keeps s f _ a (record {
+        follows = inl refl;
+        port = marked-fits _ h (h .access) (omega arith) (or-r (sameName (x .name) noName) n) (h .tag);
+        fits = new-fits _ _ (x .name) (x .port) n (r .1);
+        tied = refl;
+        named = refl;
+        shown = λ z. shut z;
+        spot = λ n. absurd (n refl);
+        alone = λ j t. nobody-tied s i f (or-false-r (reserved (x .here)) (x .tied) (k .1 .1 .1 .0)) (r .0) j (t .live);
+        moved = λ b. absurd (omega arith);
+        awaits = λ b. absurd (omega arith);
+        gone = λ b. absurd (omega arith);
+        room = λ _ _. has-room s i f (k .1 .1 .1 .1 .1 .0);
+      })
 
   pub carrier-notification-keeps : Good s (carrierNotification x)
   unfolding see
-  carrier-notification-keeps = record {
-    good = λ e a.
-        let k = clear (carrierNotification x .grounds) refl e in
-        announced-keeps s f (newCarrier (x .name) 0) (new-fits _ _ (x .name) 0 (name-fits s i f (k .0)) (omega arith)) refl refl refl
-        (has-room s i f (k .1 .1 .0));
-  }
+  carrier-notification-keeps k a =
+      announced-keeps s f (newCarrier (x .name) 0) (new-fits _ _ (x .name) 0 (name-fits s i f (k .0)) (omega arith)) refl refl refl
+      (has-room s i f (k .1 .1 .0))
 
   pub carrier-out-keeps : Good s (carrierOut x)
   unfolding see
-  carrier-out-keeps = record {
-    good = λ e a.
-        let k = clear (carrierOut x .grounds) refl e in
-        let r = given-range s i f (k .1 .0) in
-        let q = f .ports (x .port) in
-        let h = found-fits s i f (k .1 .1 .0) in
-        let o : canComeOut x ≡ true = k .1 .1 .1 .1 .0 in
-        let t = eqb-true (x .here .transfer) 1 (and-r (inBuffer (x .found) && not (isOpen (x .found)) && not (inAccess (x .found))) _ o) in
-        let p = eqb-true (x .found .place) 2 (and-l _ _ (and-l _ _ (and-l _ _ o))) in
-        let u = not-true _ (and-r (inBuffer (x .found)) _ (and-l _ _ (and-l _ _ o))) in
-        arrives-keeps s f _ a (record {
-          follows = inr (found-live s i f (k .1 .1 .0));
-          port =
-              marked-fits _
-              (moved-fits _ q (omega arith) (q .movement) (omega arith) (λ n. let z = q .moving n in absurd (omega arith))
-              (λ b. absurd (omega arith)) (λ m _. let z = q .moving (λ y. omega arith) in omega arith))
-              (q .access) (q .reserved) (or-r (sameName (x .name) noName) (name-fits s i f (k .0))) (omega arith);
-          fits = flags-fit (stands-fits h (at-stands _ _ (x .port) (r .0) (r .1))) (h .opened) (h .cancelled) (omega arith);
-          tied = refl;
-          named = sym (found-named s i f (k .1 .1 .0));
-          shown = λ z. clash z u;
-          spot = λ n. absurd (n refl);
-          alone = λ j t. nobody-tied s i f (or-false-r (reserved (x .here)) (x .tied) (k .1 .1 .1 .0)) (r .0) j (t .live);
-          moved = λ _ n. absurd (n (h .stands .inFree p));
-          awaits = λ _ z. clash z refl;
-          gone = λ b. absurd (omega arith);
-          room = λ z. clash z refl;
-        });
-  }
+  carrier-out-keeps k a =
+      let r = given-range s i f (k .1 .0) in
+      let q = f .ports (x .port) in
+      let h = found-fits s i f (k .1 .1 .0) in
+      let o : canComeOut x ≡ true = k .1 .1 .1 .1 .0 in
+      let t = eqb-true (x .here .transfer) 1 (and-r (inBuffer (x .found) && not (isOpen (x .found)) && not (inAccess (x .found))) _ o) in
+      let p = eqb-true (x .found .place) 2 (and-l _ _ (and-l _ _ (and-l _ _ o))) in
+      let u = not-true _ (and-r (inBuffer (x .found)) _ (and-l _ _ (and-l _ _ o))) in
+      arrives-keeps s f _ a (record {
+        follows = inr (found-live s i f (k .1 .1 .0));
+        port =
+            marked-fits _
+            (moved-fits _ q (omega arith) (q .movement) (omega arith) (λ n. let z = q .moving n in absurd (omega arith))
+            (λ b. absurd (omega arith)) (λ m _. let z = q .moving (λ y. omega arith) in omega arith))
+            (q .access) (q .reserved) (or-r (sameName (x .name) noName) (name-fits s i f (k .0))) (omega arith);
+        fits = flags-fit (stands-fits h (at-stands _ _ (x .port) (r .0) (r .1))) (h .opened) (h .cancelled) (omega arith);
+        tied = refl;
+        named = sym (found-named s i f (k .1 .1 .0));
+        shown = λ z. clash z u;
+        spot = λ n. absurd (n refl);
+        alone = λ j t. nobody-tied s i f (or-false-r (reserved (x .here)) (x .tied) (k .1 .1 .1 .0)) (r .0) j (t .live);
+        moved = λ _ n. absurd (n (h .stands .inFree p));
+        awaits = λ _ z. clash z refl;
+        gone = λ b. absurd (omega arith);
+        room = λ z. clash z refl;
+      })
 
   pub move-in-keeps : Good s (moveIn x)
   unfolding see
-  move-in-keeps = record {
-    good = λ e a.
-        let k = clear (moveIn x .grounds) refl e in
-        let r = given-range s i f (k .0) in
-        let p = eqb-true (x .held .place) 1 (and-l _ _ (k .1 .1 .1 .0)) in
-        let t = held-placed s i f (λ z. let y : x .held .place ≡ 0 = z in omega arith) in
-        let b = held-live s i f t in
-        let h = f .records (x .holds) b in
-        let l = leb-true 1 (x .value) (and-l _ _ (k .1 .0)) in
-        let g = leb-true (x .value) (x .places) (and-r (leb 1 (x .value)) _ (k .1 .0)) in
-        leaves-keeps s f (x .port) (emptied (x .here)) (x .holds) (movedIn (x .value) (x .held)) b (λ z. omega arith) (held-tied s i f t)
-        (emptied-fits _ (f .ports (x .port))) refl
-        (stands-fits h (record {
-          placeRange = omega arith;
-          portRange = omega arith;
-          inSpot = λ _. (l, g);
-          inFree = λ _. refl;
-          noSpot = λ n. absurd (n refl);
-          atTied = λ z. absurd (omega arith);
-        }))
-        refl (λ j c _. other (k .1 .1 .1 .1 .0) l j c);
-  }
+  move-in-keeps k a =
+      let r = given-range s i f (k .0) in
+      let p = eqb-true (x .held .place) 1 (and-l _ _ (k .1 .1 .1 .0)) in
+      let t = held-placed s i f (λ z. let y : x .held .place ≡ 0 = z in omega arith) in
+      let b = held-live s i f t in
+      let h = f .records (x .holds) b in
+      let l = leb-true 1 (x .value) (and-l _ _ (k .1 .0)) in
+      let g = leb-true (x .value) (x .places) (and-r (leb 1 (x .value)) _ (k .1 .0)) in
+      leaves-keeps s f (x .port) (emptied (x .here)) (x .holds) (movedIn (x .value) (x .held)) b (λ z. omega arith) (held-tied s i f t)
+      (emptied-fits _ (f .ports (x .port))) refl
+      (stands-fits h (record {
+        placeRange = omega arith;
+        portRange = omega arith;
+        inSpot = λ _. (l, g);
+        inFree = λ _. refl;
+        noSpot = λ n. absurd (n refl);
+        atTied = λ z. absurd (omega arith);
+      }))
+      refl (λ j c _. other (k .1 .1 .1 .1 .0) l j c)
     where
       -- who has a spot is in the buffer, and nobody there has this one
       other : x .taken ≡ false → 1 ≤ x .value → (j : ℕ) → j < length (s .carriers) → recordOf s j .spot ≢ x .value
@@ -197,20 +184,17 @@ module _ (s : State) (i : Input) (f : Facts s) where
 
   pub id-read-keeps : Good s (idRead x)
   unfolding see elsewhere displaced
-  id-read-keeps = record {
-    good = λ e a.
-        let k = clear (idRead x .grounds) refl e in
-        let r = given-range s i f (k .0) in
-        let n = name-fits s i f (k .1 .0) in
-        let h = here-fits s i f in
-        let u = or-false-l (placed x) _ (k .1 .1 .0) in
-        coming-keeps (tagRead (x .name) (x .here)) (displaced x) _ (not (x .known)) refl a (k .0)
-        (marked-fits _ h (h .access) (h .reserved) (or-r (sameName (x .name) noName) n) (omega arith)) refl
-        (placed-fits _ _ _ (x .port) _ (status (matching x)) (r .0) (r .1) (either-fits s i f (k .1 .0))) (either-named s i f) refl refl
-        (either-shut s i f u)
-        (λ j t. only-held s i f (r .0) j (t .live) (other (eqb (x .holds) (x .stands)) refl j (t .here) (t .same)))
-        (tied-here (k .1 .1 .0) (r .0)) (gone (eqb (x .holds) (x .stands)));
-  }
+  id-read-keeps k a =
+      let r = given-range s i f (k .0) in
+      let n = name-fits s i f (k .1 .0) in
+      let h = here-fits s i f in
+      let u = or-false-l (placed x) _ (k .1 .1 .0) in
+      coming-keeps (tagRead (x .name) (x .here)) (displaced x) _ (not (x .known)) refl a (k .0)
+      (marked-fits _ h (h .access) (h .reserved) (or-r (sameName (x .name) noName) n) (omega arith)) refl
+      (placed-fits _ _ _ (x .port) _ (status (matching x)) (r .0) (r .1) (either-fits s i f (k .1 .0))) (either-named s i f) refl refl
+      (either-shut s i f u)
+      (λ j t. only-held s i f (r .0) j (t .live) (other (eqb (x .holds) (x .stands)) refl j (t .here) (t .same)))
+      (tied-here (k .1 .1 .0) (r .0)) (gone (eqb (x .holds) (x .stands)))
     where
       status : (w : Bool) → (1 ≤ cond w 3 2) × (cond w 3 2 ≤ 4)
       status true = (omega arith, omega arith)
@@ -227,11 +211,7 @@ module _ (s : State) (i : Input) (f : Facts s) where
 
   pub id-read-failed-keeps : Good s (idReadFailed x)
   unfolding see
-  id-read-failed-keeps = record {
-    good = λ e a.
-        let k = clear (idReadFailed x .grounds) refl e in
-        go (x .tied) refl (given-range s i f (k .0)) a;
-  }
+  id-read-failed-keeps k a = go (x .tied) refl (given-range s i f (k .0)) a
     where
       go : (w : Bool) → x .tied ≡ w → (1 ≤ x .port) × (x .port ≤ length (s .ports))
           → Apt s (onBoth (x .count) (x .port) (tagNotRead (x .here)) (x .holds)

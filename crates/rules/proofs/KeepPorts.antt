@@ -19,7 +19,6 @@ use Rattle.rules.specs.Row.{onPortAndGone}
 use Rattle.rules.specs.Booking.{meant, meantPort, meantStands, onePair, cancelBind, cancelCarrierNotification}
 use Rattle.rules.specs.Service.{goesOut, comesIn, changeAccess, changeServiceStatus, reserveAtPort, cancelReservationAtPort}
 use Rattle.rules.specs.Transfer.{loadStart, loadDone, loadFail, unloadStart, unloadDone, unloadFail}
-use Rattle.rules.proofs.Accepts.{clear}
 use Rattle.rules.proofs.SoundParts.{PortFits, Facts}
 use Rattle.rules.proofs.Orderly.{ties-differ}
 use Rattle.rules.proofs.Keep.{Calm, Keeps}
@@ -34,13 +33,10 @@ module _ (s : State) (i : Input) (f : Facts s) where
   -- ── Rows 9 to 12 ──
   pub change-access-keeps : Good s (changeAccess x)
   unfolding see
-  change-access-keeps = record {
-    good = λ e _.
-        let k = clear (changeAccess x .grounds) refl e in
-        let h = f .ports (x .port) in
-        calm-keeps s f (x .port) _ (marked-fits _ h (leb-true _ _ (k .1 .0)) (h .reserved) (h .tie) (h .tag))
-        (record { tie = refl; quiet = λ a b. (a, b) });
-  }
+  change-access-keeps k _ =
+      let h = f .ports (x .port) in
+      calm-keeps s f (x .port) _ (marked-fits _ h (leb-true _ _ (k .1 .0)) (h .reserved) (h .tie) (h .tag))
+      (record { tie = refl; quiet = λ a b. (a, b) })
 
   -- the transfer state stays, or passes between OUT OF SERVICE and READY TO LOAD
   served : (v : ℕ) → (goesOut x && not (readyToLoad (x .here))) ≡ false
@@ -82,107 +78,82 @@ module _ (s : State) (i : Input) (f : Facts s) where
 
   pub change-service-status-keeps : Good s (changeServiceStatus x)
   unfolding see
-  change-service-status-keeps = record {
-    good = λ e _.
-        let k = clear (changeServiceStatus x .grounds) refl e in
-        let v = served _ (k .1 .1 .1 .0) refl in
-        calm-keeps s f (x .port) _ (served-fits _ (f .ports (x .port)) v) (served-calm _ v);
-  }
+  change-service-status-keeps k _ =
+      let v = served _ (k .1 .1 .1 .0) refl in
+      calm-keeps s f (x .port) _ (served-fits _ (f .ports (x .port)) v) (served-calm _ v)
 
   pub reserve-at-port-keeps : Good s (reserveAtPort x)
   unfolding see
-  reserve-at-port-keeps = record {
-    good = λ e _.
-        let h = f .ports (x .port) in
-        calm-keeps s f (x .port) _ (marked-fits _ h (h .access) (omega arith) (h .tie) (h .tag))
-        (record { tie = refl; quiet = λ a b. (a, b) });
-  }
+  reserve-at-port-keeps _ _ =
+      let h = f .ports (x .port) in
+      calm-keeps s f (x .port) _ (marked-fits _ h (h .access) (omega arith) (h .tie) (h .tag))
+      (record { tie = refl; quiet = λ a b. (a, b) })
 
   pub cancel-reservation-at-port-keeps : Good s (cancelReservationAtPort x)
   unfolding see
-  cancel-reservation-at-port-keeps = record {
-    good = λ e _.
-        let h = f .ports (x .port) in
-        calm-keeps s f (x .port) _ (marked-fits _ h (h .access) (omega arith) (h .tie) (h .tag))
-        (record { tie = refl; quiet = λ a b. (a, b) });
-  }
+  cancel-reservation-at-port-keeps _ _ =
+      let h = f .ports (x .port) in
+      calm-keeps s f (x .port) _ (marked-fits _ h (h .access) (omega arith) (h .tie) (h .tag))
+      (record { tie = refl; quiet = λ a b. (a, b) })
 
   -- ── Rows 13 to 15 and 24 to 26 ──
   pub load-start-keeps : Good s (loadStart x)
   unfolding see
-  load-start-keeps = record {
-    good = λ e _.
-        let k = clear (loadStart x .grounds) refl e in
-        let h = f .ports (x .port) in
-        let r = eqb-true (x .here .transfer) 1 (k .1 .0) in
-        calm-keeps s f (x .port) _
-        (marked-fits _
-        (moved-fits _ h (omega arith) (omega arith) (h .pod) (λ _. refl) (λ b. absurd (omega arith)) (λ _. h .low (omega arith)))
-        (h .access) (omega arith) (h .tie) (h .tag))
-        (unblocked-calm refl (λ z. omega arith));
-  }
+  load-start-keeps k _ =
+      let h = f .ports (x .port) in
+      let r = eqb-true (x .here .transfer) 1 (k .1 .0) in
+      calm-keeps s f (x .port) _
+      (marked-fits _
+      (moved-fits _ h (omega arith) (omega arith) (h .pod) (λ _. refl) (λ b. absurd (omega arith)) (λ _. h .low (omega arith)))
+      (h .access) (omega arith) (h .tie) (h .tag))
+      (unblocked-calm refl (λ z. omega arith))
 
   pub load-done-keeps : Good s (loadDone x)
   unfolding see
-  load-done-keeps = record {
-    good = λ e _.
-        let k = clear (loadDone x .grounds) refl e in
-        let h = f .ports (x .port) in
-        let r = eqb-true (x .here .movement) 1 (k .1 .0) in
-        let t = h .moving (λ z. omega arith) in
-        calm-keeps s f (x .port) _
-        (marked-fits _
-        (moved-fits _ h (h .transfer) (omega arith) (omega arith) (λ n. absurd (n refl))
-        (λ b. absurd (omega arith)) (λ z. absurd (omega arith)))
-        (h .access) (h .reserved) (h .tie) (omega arith))
-        (moving-calm refl (λ z. omega arith));
-  }
+  load-done-keeps k _ =
+      let h = f .ports (x .port) in
+      let r = eqb-true (x .here .movement) 1 (k .1 .0) in
+      let t = h .moving (λ z. omega arith) in
+      calm-keeps s f (x .port) _
+      (marked-fits _
+      (moved-fits _ h (h .transfer) (omega arith) (omega arith) (λ n. absurd (n refl))
+      (λ b. absurd (omega arith)) (λ z. absurd (omega arith)))
+      (h .access) (h .reserved) (h .tie) (omega arith))
+      (moving-calm refl (λ z. omega arith))
 
   pub load-fail-keeps : Good s (loadFail x)
   unfolding see
-  load-fail-keeps = record {
-    good = λ e _.
-        let k = clear (loadFail x .grounds) refl e in
-        let h = f .ports (x .port) in
-        let r = eqb-true (x .here .movement) 1 (k .1 .0) in
-        calm-keeps s f (x .port) _
-        (moved-fits _ h (omega arith) (omega arith) (h .pod) (λ n. absurd (n refl)) (λ _. h .load r) (λ z. absurd (omega arith)))
-        (moving-calm refl (λ z. omega arith));
-  }
+  load-fail-keeps k _ =
+      let h = f .ports (x .port) in
+      let r = eqb-true (x .here .movement) 1 (k .1 .0) in
+      calm-keeps s f (x .port) _
+      (moved-fits _ h (omega arith) (omega arith) (h .pod) (λ n. absurd (n refl)) (λ _. h .load r) (λ z. absurd (omega arith)))
+      (moving-calm refl (λ z. omega arith))
 
   pub unload-start-keeps : Good s (unloadStart x)
   unfolding see
-  unload-start-keeps = record {
-    good = λ e _.
-        let k = clear (unloadStart x .grounds) refl e in
-        let h = f .ports (x .port) in
-        let r = eqb-true (x .here .transfer) 2 (k .1 .0) in
-        calm-keeps s f (x .port) _
-        (moved-fits _ h (omega arith) (omega arith) (h .pod) (λ _. refl) (λ b. absurd (omega arith)) (λ z. absurd (omega arith)))
-        (unblocked-calm refl (λ z. omega arith));
-  }
+  unload-start-keeps k _ =
+      let h = f .ports (x .port) in
+      let r = eqb-true (x .here .transfer) 2 (k .1 .0) in
+      calm-keeps s f (x .port) _
+      (moved-fits _ h (omega arith) (omega arith) (h .pod) (λ _. refl) (λ b. absurd (omega arith)) (λ z. absurd (omega arith)))
+      (unblocked-calm refl (λ z. omega arith))
 
   pub unload-done-keeps : Good s (unloadDone x)
   unfolding see
-  unload-done-keeps = record {
-    good = λ e _.
-        let k = clear (unloadDone x .grounds) refl e in
-        let r = given-range s i f (k .0) in
-        freed-keeps s f (x .port) _ (x .holds) (emptied-fits _ (f .ports (x .port))) refl (only-held s i f (r .0))
-        (λ b _. held-tied s i f (lt-ltb (x .holds) (length (s .carriers)) b));
-  }
+  unload-done-keeps k _ =
+      let r = given-range s i f (k .0) in
+      freed-keeps s f (x .port) _ (x .holds) (emptied-fits _ (f .ports (x .port))) refl (only-held s i f (r .0))
+      (λ b _. held-tied s i f (lt-ltb (x .holds) (length (s .carriers)) b))
 
   pub unload-fail-keeps : Good s (unloadFail x)
   unfolding see
-  unload-fail-keeps = record {
-    good = λ e _.
-        let k = clear (unloadFail x .grounds) refl e in
-        let h = f .ports (x .port) in
-        let r = eqb-true (x .here .movement) 2 (k .1 .0) in
-        calm-keeps s f (x .port) _
-        (moved-fits _ h (omega arith) (omega arith) (h .pod) (λ n. absurd (n refl)) (λ b. absurd (omega arith)) (λ z. absurd (omega arith)))
-        (moving-calm refl (λ z. omega arith));
-  }
+  unload-fail-keeps k _ =
+      let h = f .ports (x .port) in
+      let r = eqb-true (x .here .movement) 2 (k .1 .0) in
+      calm-keeps s f (x .port) _
+      (moved-fits _ h (omega arith) (omega arith) (h .pod) (λ n. absurd (n refl)) (λ b. absurd (omega arith)) (λ z. absurd (omega arith)))
+      (moving-calm refl (λ z. omega arith))
 
   -- ── Rows 2 and 4 ──
   unbind : (n : ℕ) → n ≡ length (s .carriers) → (q : Port) (k : ℕ) → k < length (s .carriers) → recordOf s k .port ≢ 0
@@ -195,12 +166,9 @@ module _ (s : State) (i : Input) (f : Facts s) where
 
   pub cancel-bind-keeps : Good s (cancelBind x)
   unfolding see meant meantPort meantStands onePair
-  cancel-bind-keeps = record {
-    good = λ e _.
-        let k = clear (cancelBind x .grounds) refl e in
-        let n : not (untied (meant x)) ≡ true = let o = k .1 .1 .1 .1 .0 in search (and-l, and-r) depth 5 in
-        go (x .blank) refl (k .1 .1 .1 .0) (eqb-false (meant x .port) 0 (not-true _ n));
-  }
+  cancel-bind-keeps k _ =
+      let n : not (untied (meant x)) ≡ true = let o = k .1 .1 .1 .1 .0 in search (and-l, and-r) depth 5 in
+      go (x .blank) refl (k .1 .1 .1 .0) (eqb-false (meant x .port) 0 (not-true _ n))
     where
       go : (w : Bool) → x .blank ≡ w → (x .blank || x .known) ≡ true → cond w (x .held) (x .found) .port ≢ 0
           → Keeps s (onPortAndGone (x .count) (cond w (x .held) (x .found) .port) (unbound (cond w (x .here) (x .home)))
@@ -212,8 +180,5 @@ module _ (s : State) (i : Input) (f : Facts s) where
 
   pub cancel-carrier-notification-keeps : Good s (cancelCarrierNotification x)
   unfolding see
-  cancel-carrier-notification-keeps = record {
-    good = λ e _.
-        let k = clear (cancelCarrierNotification x .grounds) refl e in
-        gone-keeps s f (x .stands) (eqb-true _ 0 (and-r (expected (x .found)) _ (k .1 .1 .0)));
-  }
+  cancel-carrier-notification-keeps k _ =
+      gone-keeps s f (x .stands) (eqb-true _ 0 (and-r (expected (x .found)) _ (k .1 .1 .0)))

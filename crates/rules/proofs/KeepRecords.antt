@@ -18,7 +18,6 @@ use Rattle.rules.specs.Seen.{Input, see}
 use Rattle.rules.specs.Row.{onBoth}
 use Rattle.rules.specs.Buffer.{canGoBack, carrierIn}
 use Rattle.rules.specs.Opening.{canOpen, openRow, slotMap, accessStart, accessEnd, leavesPort, closeRow}
-use Rattle.rules.proofs.Accepts.{clear}
 use Rattle.rules.proofs.Apt.{Apt}
 use Rattle.rules.proofs.SoundParts.{PortFits, Fits, Facts}
 use Rattle.rules.proofs.Keep.{Keeps}
@@ -48,13 +47,10 @@ module _ (s : State) (i : Input) (f : Facts s) where
 
   pub open-keeps : Good s (openRow x)
   unfolding see
-  open-keeps = record {
-    good = λ e a.
-        let k = clear (openRow x .grounds) refl e in
-        let u = found-fits s i f (k .1 .0) in
-        record-keeps s f (x .stands) (withOpened 1 (x .found)) a (found-live s i f (k .1 .0)) (opened-fits _ _ 1 _ (omega arith) u)
-        (record { name = refl; place = refl; spot = refl; port = refl }) (λ _ n. at n (k .1 .1 .0));
-  }
+  open-keeps k a =
+      let u = found-fits s i f (k .1 .0) in
+      record-keeps s f (x .stands) (withOpened 1 (x .found)) a (found-live s i f (k .1 .0)) (opened-fits _ _ 1 _ (omega arith) u)
+      (record { name = refl; place = refl; spot = refl; port = refl }) (λ _ n. at n (k .1 .1 .0))
     where
       at : x .found .place ≢ 2 → canOpen x ≡ true → (x .found .place ≡ 1) × (idle (x .home) ≡ true) × (blocked (x .home) ≡ true)
       at n t =
@@ -64,37 +60,28 @@ module _ (s : State) (i : Input) (f : Facts s) where
 
   pub slot-map-keeps : Good s (slotMap x)
   unfolding see
-  slot-map-keeps = record {
-    good = λ e a.
-        let k = clear (slotMap x .grounds) refl e in
-        let h = found-fits s i f (k .1 .1 .0) in
-        let b = found-live s i f (k .1 .1 .0) in
-        record-keeps s f (x .stands) (withMap (x .map) 2 (x .found)) a b
-        (states-fit h (map-fits s i f (k .1 .0)) (h .id) (omega arith, omega arith) (h .accessing))
-        (record { name = refl; place = refl; spot = refl; port = refl }) (f .shown (x .stands) b);
-  }
+  slot-map-keeps k a =
+      let h = found-fits s i f (k .1 .1 .0) in
+      let b = found-live s i f (k .1 .1 .0) in
+      record-keeps s f (x .stands) (withMap (x .map) 2 (x .found)) a b
+      (states-fit h (map-fits s i f (k .1 .0)) (h .id) (omega arith, omega arith) (h .accessing))
+      (record { name = refl; place = refl; spot = refl; port = refl }) (f .shown (x .stands) b)
 
   pub access-start-keeps : Good s (accessStart x)
   unfolding see
-  access-start-keeps = record {
-    good = λ e a.
-        let k = clear (accessStart x .grounds) refl e in
-        let b = found-live s i f (k .1 .0) in
-        record-keeps s f (x .stands) (withAccessing 2 (x .found)) a b
-        (accessing-fits _ _ 2 _ (omega arith, omega arith) (found-fits s i f (k .1 .0)))
-        (record { name = refl; place = refl; spot = refl; port = refl }) (f .shown (x .stands) b);
-  }
+  access-start-keeps k a =
+      let b = found-live s i f (k .1 .0) in
+      record-keeps s f (x .stands) (withAccessing 2 (x .found)) a b
+      (accessing-fits _ _ 2 _ (omega arith, omega arith) (found-fits s i f (k .1 .0)))
+      (record { name = refl; place = refl; spot = refl; port = refl }) (f .shown (x .stands) b)
 
   pub access-end-keeps : Good s (accessEnd x)
   unfolding see
-  access-end-keeps = record {
-    good = λ e a.
-        let k = clear (accessEnd x .grounds) refl e in
-        let b = found-live s i f (k .1 .1 .0) in
-        record-keeps s f (x .stands) (withAccessing (cond (eqb (x .value) 0) 3 4) (x .found)) a b
-        (accessing-fits _ _ _ _ (ended (eqb (x .value) 0)) (found-fits s i f (k .1 .1 .0)))
-        (record { name = refl; place = refl; spot = refl; port = refl }) (f .shown (x .stands) b);
-  }
+  access-end-keeps k a =
+      let b = found-live s i f (k .1 .1 .0) in
+      record-keeps s f (x .stands) (withAccessing (cond (eqb (x .value) 0) 3 4) (x .found)) a b
+      (accessing-fits _ _ _ _ (ended (eqb (x .value) 0)) (found-fits s i f (k .1 .1 .0)))
+      (record { name = refl; place = refl; spot = refl; port = refl }) (f .shown (x .stands) b)
     where
       ended : (w : Bool) → (1 ≤ cond w 3 4) × (cond w 3 4 ≤ 4)
       ended true = (omega arith, omega arith)
@@ -102,11 +89,7 @@ module _ (s : State) (i : Input) (f : Facts s) where
 
   pub close-keeps : Good s (closeRow x)
   unfolding see
-  close-keeps = record {
-    good = λ e a.
-        let k = clear (closeRow x .grounds) refl e in
-        go (leavesPort x) refl (k .1 .0) (and-l _ _ (k .1 .1 .0)) a;
-  }
+  close-keeps k a = go (leavesPort x) refl (k .1 .0) (and-l _ _ (k .1 .1 .0)) a
     where
       go : (w : Bool) → leavesPort x ≡ w → x .known ≡ true → isOpen (x .found) ≡ true
           → Apt s (onBoth (x .count) (cond w (x .found .port) 0) (cond w (toUnload (x .home)) noPort) (x .stands) (withOpened 0 (x .found)))
@@ -128,19 +111,16 @@ module _ (s : State) (i : Input) (f : Facts s) where
 
   pub carrier-in-keeps : Good s (carrierIn x)
   unfolding see
-  carrier-in-keeps = record {
-    good = λ e a.
-        let k = clear (carrierIn x .grounds) refl e in
-        let b = found-live s i f (k .1 .0) in
-        let h = found-fits s i f (k .1 .0) in
-        let q = home-fits s i f in
-        let g : canGoBack x ≡ true = k .1 .1 .0 in
-        let p = h .stands .atTied (eqb-true (x .found .place) 1 (and-l _ _ (and-l _ _ g))) in
-        let u = eqb-true (x .home .transfer) 2 (and-r (atPort (x .found)) _ (and-l _ _ g)) in
-        both-keeps s f (x .found .port) (toBlocked (x .home)) (x .stands) (takenBack (x .found)) a b
-        (λ z. let y : x .found .port ≡ 0 = z in omega arith) refl
-        (moved-fits _ q (omega arith) (q .movement) (q .pod) (λ _. refl) (λ b. absurd (omega arith)) (q .load))
-        refl (flags-fit h (h .opened) (h .cancelled) (omega arith))
-        (record { name = refl; place = refl; spot = refl; port = refl })
-        (λ o n. let r = eqb-true (x .home .transfer) 3 (f .shown (x .stands) b o n .2) in absurd (omega arith));
-  }
+  carrier-in-keeps k a =
+      let b = found-live s i f (k .1 .0) in
+      let h = found-fits s i f (k .1 .0) in
+      let q = home-fits s i f in
+      let g : canGoBack x ≡ true = k .1 .1 .0 in
+      let p = h .stands .atTied (eqb-true (x .found .place) 1 (and-l _ _ (and-l _ _ g))) in
+      let u = eqb-true (x .home .transfer) 2 (and-r (atPort (x .found)) _ (and-l _ _ g)) in
+      both-keeps s f (x .found .port) (toBlocked (x .home)) (x .stands) (takenBack (x .found)) a b
+      (λ z. let y : x .found .port ≡ 0 = z in omega arith) refl
+      (moved-fits _ q (omega arith) (q .movement) (q .pod) (λ _. refl) (λ b. absurd (omega arith)) (q .load))
+      refl (flags-fit h (h .opened) (h .cancelled) (omega arith))
+      (record { name = refl; place = refl; spot = refl; port = refl })
+      (λ o n. let r = eqb-true (x .home .transfer) 3 (f .shown (x .stands) b o n .2) in absurd (omega arith))

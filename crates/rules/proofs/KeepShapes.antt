@@ -16,15 +16,16 @@ use Rattle.records.specs.Ports.{noPort, idle, blocked}
 use Rattle.records.specs.Carriers.{expected}
 use Rattle.rules.specs.declared.row.Effect.{Effect}
 use Rattle.rules.specs.State.{State, portOf, recordOf}
-use Rattle.rules.specs.Row.{Row, judge, enact, onPort, onPortAndGone, onRecord, onBoth}
+use Rattle.rules.specs.Row.{Row, enact, onPort, onPortAndGone, onRecord, onBoth}
+use Rattle.rules.proofs.Accepts.{Clear}
 use Rattle.rules.proofs.Apt.{Apt}
 use Rattle.rules.proofs.SoundParts.{PortFits, Fits, Shown, Facts, no-port-fits}
 use Rattle.rules.proofs.Orderly.{ties-differ}
 use Rattle.rules.proofs.Keep.{Follows, Stays, Calm, Keeps, port-after, other-port-after}
 
 -- where a row accepts, its effect keeps a sound state sound
-pub record Good (s : State) (r : Row) : Type 0 where
-  pub good : judge (r .grounds) ≡ 0 → Apt s (r .effect) → Keeps s (r .effect)
+abbrev pub Good : State → Row → Type 0
+Good s r = Clear (r .grounds) → Apt s (r .effect) → Keeps s (r .effect)
 
 -- a record that stands as another: its name, its place, its spot and its port
 pub record Alike (c d : Carrier) : Type 0 where

@@ -19,7 +19,6 @@ use Rattle.rules.specs.State.{State}
 use Rattle.rules.specs.Seen.{Input, see}
 use Rattle.rules.specs.Row.{otherPort, placed, unknownPod, foundOrNew}
 use Rattle.rules.specs.Verdict.{takesUnknownPod, proceedWithCarrier, canCancel, cancelAt, cancelPort, failed, cancelCarrier}
-use Rattle.rules.proofs.Accepts.{clear}
 use Rattle.rules.proofs.Apt.{Apt}
 use Rattle.rules.proofs.SoundParts.{PortFits, Fits, Facts}
 use Rattle.rules.proofs.Keep.{Keeps}
@@ -105,11 +104,8 @@ module _ (s : State) (i : Input) (f : Facts s) where
 
   pub proceed-with-carrier-keeps : Good s (proceedWithCarrier x)
   unfolding see
-  proceed-with-carrier-keeps = record {
-    good = λ e a.
-        let k = clear (proceedWithCarrier x .grounds) refl e in
-        go (placed x) refl (not (x .known)) refl (k .0) (pod-there (k .1 .1 .0) (k .1 .1 .1 .0)) (found-untied (k .1 .1 .1 .0)) a;
-  }
+  proceed-with-carrier-keeps k a =
+      go (placed x) refl (not (x .known)) refl (k .0) (pod-there (k .1 .1 .0) (k .1 .1 .1 .0)) (found-untied (k .1 .1 .1 .0)) a
     where
       go : (w : Bool) → placed x ≡ w → (m : Bool) → not (x .known) ≡ m → x .named ≡ true → (placed x ≡ false → Pod)
           → (placed x ≡ false → x .known ≡ true → x .found .port ≡ 0) → Apt s (proceeding w m) → Keeps s (proceeding w m)
@@ -151,13 +147,10 @@ module _ (s : State) (i : Input) (f : Facts s) where
 
   pub cancel-carrier-keeps : Good s (cancelCarrier x)
   unfolding see cancelAt cancelPort failed
-  cancel-carrier-keeps = record {
-    good = λ e a.
-        let k = clear (cancelCarrier x .grounds) refl e in
-        go (placed x) refl (atPort (x .found)) refl (eqb (cancelAt x) 0) refl (not (x .known)) refl (k .0)
-        (pod-there (k .1 .1 .0) (k .1 .1 .1 .0))
-        (found-untied (k .1 .1 .1 .0)) (idle-home (k .1 .1 .1 .1 .0)) a;
-  }
+  cancel-carrier-keeps k a =
+      go (placed x) refl (atPort (x .found)) refl (eqb (cancelAt x) 0) refl (not (x .known)) refl (k .0)
+      (pod-there (k .1 .1 .0) (k .1 .1 .1 .0))
+      (found-untied (k .1 .1 .1 .0)) (idle-home (k .1 .1 .1 .1 .0)) a
     where
       go : (w : Bool) → placed x ≡ w → (v : Bool) → atPort (x .found) ≡ v
           → (z : Bool) → eqb (cond w (cond v (x .found .port) 0) (x .port)) 0 ≡ z

@@ -1,4 +1,5 @@
 pub mod Only
+pub mod Walk
 pub mod Lowest
 pub mod Names
 pub mod Holding

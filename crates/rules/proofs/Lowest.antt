@@ -8,11 +8,12 @@ use lib.Dec.{eqb, leb}
 use borrow.Author.Tests.{eqb-false, leb-true, ne-eqb, le-leb}
 use Rattle.lists.proofs.Bools.{and-l, and-r}
 use Rattle.rules.specs.declared.row.Seen.{Seen}
-use Rattle.rules.specs.Row.{Ground, when, unless, given, lower, lowest, judge, Row}
+use Rattle.rules.specs.Row.{Ground, when, unless, given, lower, lowest, judge}
 use Rattle.rules.specs.Rows.{rowOf}
+use Rattle.rules.proofs.Walk.{walk}
 
 -- the number that a ground would give
-abbrev numberOf : Ground → ℕ
+abbrev pub numberOf : Ground → ℕ
 numberOf (when b n) = n
 numberOf (unless b n) = n
 
@@ -59,27 +60,38 @@ first-is-lowest m (g ∷ gs) p h =
     go (unless true k) q r e = e
     go (unless false k) q r e = lower-first k (lowest gs) q (λ n. rw e at (bound k gs r q (λ z. n (sym e ∙ z))))
 
--- every row
-pub record Rising (r : Row) : Type 0 where
-  pub rising : risingFrom 1 (r .grounds) ≡ true
-
-one-of : {r q : Row} (b : Bool) → Rising r → Rising q → Rising (cond b r q)
-one-of true f g = f
-one-of false f g = g
-
-abbrev up : {r : Row} → risingFrom 1 (r .grounds) ≡ true → Rising r
-up e = record { rising = e }
-
-pub rows-rise : (n : ℕ) (x : Seen) → Rising (rowOf n x)
-unfolding rowOf
+-- every row, by its numbers as they stand
+pub rows-rise : (n : ℕ) (x : Seen) → risingFrom 1 (rowOf n x .grounds) ≡ true
 rows-rise n x =
-    one-of (eqb n 1) (up refl) (one-of (eqb n 2) (up refl) (one-of (eqb n 3) (up refl) (one-of (eqb n 4) (up refl)
-    (one-of (eqb n 5) (up refl) (one-of (eqb n 6) (up refl) (one-of (eqb n 7) (up refl) (one-of (eqb n 8) (up refl)
-    (one-of (eqb n 9) (up refl) (one-of (eqb n 10) (up refl) (one-of (eqb n 11) (up refl) (one-of (eqb n 12) (up refl)
-    (one-of (eqb n 13) (up refl) (one-of (eqb n 14) (up refl) (one-of (eqb n 15) (up refl) (one-of (eqb n 16) (up refl)
-    (one-of (eqb n 17) (up refl) (one-of (eqb n 18) (up refl) (one-of (eqb n 19) (up refl) (one-of (eqb n 20) (up refl)
-    (one-of (eqb n 21) (up refl) (one-of (eqb n 22) (up refl) (one-of (eqb n 23) (up refl) (one-of (eqb n 24) (up refl)
-    (one-of (eqb n 25) (up refl) (one-of (eqb n 26) (up refl) (up refl))))))))))))))))))))))))))
+    walk (λ _ r. risingFrom 1 (r .grounds) ≡ true) x (record {
+      bind = refl;
+      cancelBind = refl;
+      carrierNotification = refl;
+      cancelCarrierNotification = refl;
+      proceedWithCarrier = refl;
+      cancelCarrier = refl;
+      carrierOut = refl;
+      carrierIn = refl;
+      changeAccess = refl;
+      changeServiceStatus = refl;
+      reserveAtPort = refl;
+      cancelReservationAtPort = refl;
+      loadStart = refl;
+      loadDone = refl;
+      loadFail = refl;
+      idRead = refl;
+      idReadFailed = refl;
+      moveIn = refl;
+      openRow = refl;
+      slotMap = refl;
+      accessStart = refl;
+      accessEnd = refl;
+      closeRow = refl;
+      unloadStart = refl;
+      unloadDone = refl;
+      unloadFail = refl;
+      none = λ _. refl;
+    }) n
 
 pub row-first-is-lowest : (n : ℕ) (x : Seen) → judge (rowOf n x .grounds) ≡ lowest (rowOf n x .grounds)
-row-first-is-lowest n x = first-is-lowest 1 (rowOf n x .grounds) (omega arith) (rows-rise n x .rising)
+row-first-is-lowest n x = first-is-lowest 1 (rowOf n x .grounds) (omega arith) (rows-rise n x)

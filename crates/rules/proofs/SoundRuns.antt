@@ -13,17 +13,17 @@ use Rattle.records.specs.Ports.{newPort}
 use Rattle.rules.specs.State.{State, portOf, start}
 use Rattle.rules.specs.Sound.{portInRange, inRange, tieHeld, tiesAgree, fewExpected, portAgrees, sound}
 use Rattle.rules.specs.Seen.{Input, see}
-use Rattle.rules.specs.Row.{Row, enact}
+use Rattle.rules.specs.Row.{judge, enact}
 use Rattle.rules.specs.Rows.{rowOf}
 use Rattle.rules.specs.Outcome.{rowIn, answerIn, stateAfter}
 use Rattle.rules.specs.History.{reached}
 use Rattle.rules.specs.Promise.{Orderly}
 use Rattle.rules.proofs.Lowest.{row-first-is-lowest}
-use Rattle.rules.proofs.Apt.{apt}
+use Rattle.rules.proofs.Accepts.{walk-accepting, never}
+use Rattle.rules.proofs.Apt.{Apt, apt}
 use Rattle.rules.proofs.SoundParts.{Facts, facts}
 use Rattle.rules.proofs.Orderly.{orderly, bounded}
-use Rattle.rules.proofs.Keep.{keeps-sound}
-use Rattle.rules.proofs.KeepShapes.{Good}
+use Rattle.rules.proofs.Keep.{Keeps, keeps-sound}
 use Rattle.rules.proofs.KeepPorts.{cancel-bind-keeps, cancel-carrier-notification-keeps, change-access-keeps}
 use Rattle.rules.proofs.KeepPorts.{change-service-status-keeps, reserve-at-port-keeps}
 use Rattle.rules.proofs.KeepPorts.{cancel-reservation-at-port-keeps, load-start-keeps, load-done-keeps}
@@ -33,27 +33,37 @@ use Rattle.rules.proofs.KeepArrivals.{bind-keeps, carrier-notification-
 use Rattle.rules.proofs.KeepArrivals.{id-read-failed-keeps, move-in-keeps}
 use Rattle.rules.proofs.KeepVerdict.{proceed-with-carrier-keeps, cancel-carrier-keeps}
 
-one-of : {s : State} {r q : Row} (b : Bool) → Good s r → Good s q → Good s (cond b r q)
-one-of true f g = f
-one-of false f g = g
-
-rows-keep : (s : State) (i : Input) (f : Facts s) (n : ℕ) → Good s (rowOf n (see s i))
-unfolding rowOf
-rows-keep s i f n =
-    one-of (eqb n 1) (bind-keeps s i f) (one-of (eqb n 2) (cancel-bind-keeps s i f)
-    (one-of (eqb n 3) (carrier-notification-keeps s i f) (one-of (eqb n 4) (cancel-carrier-notification-keeps s i f)
-    (one-of (eqb n 5) (proceed-with-carrier-keeps s i f) (one-of (eqb n 6) (cancel-carrier-keeps s i f)
-    (one-of (eqb n 7) (carrier-out-keeps s i f) (one-of (eqb n 8) (carrier-in-keeps s i f)
-    (one-of (eqb n 9) (change-access-keeps s i f) (one-of (eqb n 10) (change-service-status-keeps s i f)
-    (one-of (eqb n 11) (reserve-at-port-keeps s i f) (one-of (eqb n 12) (cancel-reservation-at-port-keeps s i f)
-    (one-of (eqb n 13) (load-start-keeps s i f) (one-of (eqb n 14) (load-done-keeps s i f)
-    (one-of (eqb n 15) (load-fail-keeps s i f) (one-of (eqb n 16) (id-read-keeps s i f)
-    (one-of (eqb n 17) (id-read-failed-keeps s i f) (one-of (eqb n 18) (move-in-keeps s i f)
-    (one-of (eqb n 19) (open-keeps s i f) (one-of (eqb n 20) (slot-map-keeps s i f)
-    (one-of (eqb n 21) (access-start-keeps s i f) (one-of (eqb n 22) (access-end-keeps s i f)
-    (one-of (eqb n 23) (close-keeps s i f) (one-of (eqb n 24) (unload-start-keeps s i f)
-    (one-of (eqb n 25) (unload-done-keeps s i f) (one-of (eqb n 26) (unload-fail-keeps s i f)
-    (record { good = λ e _. absurd (omega arith) }))))))))))))))))))))))))))
+rows-keep : (s : State) (i : Input) → Facts s → (n : ℕ) → judge (rowOf n (see s i) .grounds) ≡ 0
+    → Apt s (rowOf n (see s i) .effect) → Keeps s (rowOf n (see s i) .effect)
+rows-keep s i f = walk-accepting (λ _ e. Apt s e → Keeps s e) (see s i) (record {
+  bind = bind-keeps s i f;
+  cancelBind = cancel-bind-keeps s i f;
+  carrierNotification = carrier-notification-keeps s i f;
+  cancelCarrierNotification = cancel-carrier-notification-keeps s i f;
+  proceedWithCarrier = proceed-with-carrier-keeps s i f;
+  cancelCarrier = cancel-carrier-keeps s i f;
+  carrierOut = carrier-out-keeps s i f;
+  carrierIn = carrier-in-keeps s i f;
+  changeAccess = change-access-keeps s i f;
+  changeServiceStatus = change-service-status-keeps s i f;
+  reserveAtPort = reserve-at-port-keeps s i f;
+  cancelReservationAtPort = cancel-reservation-at-port-keeps s i f;
+  loadStart = load-start-keeps s i f;
+  loadDone = load-done-keeps s i f;
+  loadFail = load-fail-keeps s i f;
+  idRead = id-read-keeps s i f;
+  idReadFailed = id-read-failed-keeps s i f;
+  moveIn = move-in-keeps s i f;
+  openRow = open-keeps s i f;
+  slotMap = slot-map-keeps s i f;
+  accessStart = access-start-keeps s i f;
+  accessEnd = access-end-keeps s i f;
+  closeRow = close-keeps s i f;
+  unloadStart = unload-start-keeps s i f;
+  unloadDone = unload-done-keeps s i f;
+  unloadFail = unload-fail-keeps s i f;
+  none = λ _. never;
+})
 
 -- one input, refused or accepted
 pub sound-after : (s : State) (i : Input) → sound s ≡ true → sound (stateAfter s i) ≡ true
@@ -65,7 +75,7 @@ sound-after s i h = go (eqb (answerIn s i) 0) refl
         let j = row-first-is-lowest (i .number) (see s i) ∙ eqb-true (answerIn s i) 0 e in
         let f = facts s h in
         let a = apt s i h (i .number) j in
-        keeps-sound s f (rowIn s i .effect) a (rows-keep s i f (i .number) .good j a)
+        keeps-sound s f (rowIn s i .effect) a (rows-keep s i f (i .number) j a)
     go false e = h
 
 -- the ports and the places of a tool stay as many as they are

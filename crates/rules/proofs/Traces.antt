@@ -33,7 +33,7 @@ use Rattle.rules.specs.Opening.{openRow, slotMap, accessStart, accessEnd
 use Rattle.rules.specs.Rows.{rowOf}
 use Rattle.rules.specs.Outcome.{answerIn}
 use Rattle.rules.proofs.Names.{name-is, name-same, name-sym}
-use Rattle.rules.proofs.Accepts.{clear}
+use Rattle.rules.proofs.Accepts.{Accepting, walk-accepting, never}
 use Rattle.rules.proofs.SoundFacts.{distinct}
 use Rattle.rules.proofs.Apt.{no-namesake, stands-in, not-placed-new}
 use Rattle.rules.proofs.Matching.{read-matches}
@@ -44,17 +44,6 @@ pub record Trail (s : State) (i : Input) (n : ℕ) (e : Effect) : Type 0 where
   pub others : (j : ℕ) → j < length (s .carriers) → j ≢ e .changes → does s i n 6 (getD (s .carriers) j noCarrier .name) ≡ false
   pub follows : e .changes < length (s .carriers) → Traces s i n (getD (s .carriers) (e .changes) noCarrier) (e .next)
   pub born : e .made ≡ true → Born s i n (e .next)
-
--- where a row accepts, as the input of number n
-record Fine (s : State) (i : Input) (n : ℕ) (r : Row) : Type 0 where
-  pub fine : judge (r .grounds) ≡ 0 → Trail s i n (r .effect)
-
-one-of : {s : State} {i : Input} {r q : Row} (n k : ℕ) → Fine s i k r → Fine s i n q → Fine s i n (cond (eqb n k) r q)
-one-of {s} {i} {r} {q} n k f g = go (eqb n k) refl
-  where
-    go : (b : Bool) → eqb n k ≡ b → Fine s i n (cond b r q)
-    go true e = rw (eqb-true n k e) f
-    go false e = g
 
 none-of : (a : Bool) {b : Bool} → b ≡ false → (a && b) ≡ false
 none-of true e = e
@@ -146,30 +135,18 @@ module _ (s : State) (i : Input) (h : sound s ≡ true) (a : eqb (answerIn s i) 
   new-is u = rw u
 
   -- ── Row by row ──
+  abbrev Fine : ℕ → Row → Type 0
+  Fine = Accepting (Trail s i)
+
   -- 1 and 3: a new record says nothing yet
   says-nothing : (n p : ℕ) → Harmless n → Born s i n (newCarrier (x .name) p)
   says-nothing n p d = record { okId = λ z. clash z refl; uncancelled = λ _. d (x .name); plain = refl }
 
-  bind-trail : Fine s i 1 (bind x)
-  bind-trail = record { fine = λ e. made-new 1 _ _ _ (λ m. refl) (says-nothing 1 (x .port) (λ m. refl)) }
-
-  cancel-bind-trail : Fine s i 2 (cancelBind x)
-  cancel-bind-trail = record { fine = λ e. calm 2 _ _ _ (λ m. refl) }
-
-  carrier-notification-trail : Fine s i 3 (carrierNotification x)
-  carrier-notification-trail = record { fine = λ e. made-new 3 _ _ _ (λ m. refl) (says-nothing 3 0 (λ m. refl)) }
-
-  cancel-carrier-notification-trail : Fine s i 4 (cancelCarrierNotification x)
-  cancel-carrier-notification-trail = record { fine = λ e. calm 4 _ _ _ (λ m. refl) }
-
   -- 5: the ID is OK by this input, or the slot map that waited is
-  proceed-with-carrier-trail : Fine s i 5 (proceedWithCarrier x)
+  proceed-with-carrier-trail : Fine 5 (proceedWithCarrier x)
   unfolding canProceed
-  proceed-with-carrier-trail = record {
-    fine = λ e.
-        let k = clear (proceedWithCarrier x .grounds) refl e in
-        named-or-new 5 _ _ _ _ (λ j _ _. refl) (λ u. kept u (placed x) (k .1 .1 .1 .1 .0)) (λ u. rw (not-placed-new s i h u, new-is u) new);
-  }
+  proceed-with-carrier-trail k =
+      named-or-new 5 _ _ _ _ (λ j _ _. refl) (λ u. kept u (placed x) (k .1 .1 .1 .1 .0)) (λ u. rw (not-placed-new s i h u, new-is u) new)
     where
       id-by : x .known ≡ true → (w : Bool) → eqb (cond w 3 (x .found .id)) 3 ≡ true
           → (idOk (x .found) ≡ true) ⊎ (proves s i 5 (x .found .name) ≡ true)
@@ -214,12 +191,11 @@ module _ (s : State) (i : Input) (h : sound s ≡ true) (a : eqb (answerIn s i) 
   shut-cancelled : {c after : Carrier} → isOpen after ≡ false → isCancelled after ≡ true → TracesLid s i 6 c after
   shut-cancelled p q = record { opens = λ z. clash z p; openOk = λ z. clash z p; uncancelled = λ z. clash q z }
 
-  cancel-carrier-trail : Fine s i 6 (cancelCarrier x)
+  cancel-carrier-trail : Fine 6 (cancelCarrier x)
   unfolding failed
-  cancel-carrier-trail = record {
-    fine = λ e. named-or-new 6 _ _ _ _ cancels-one (λ u. kept (readyToUnload (cancelPort x)) u (placed x))
-        (λ u. rw (not-placed-new s i h u, new-is u) (new (readyToUnload (cancelPort x))));
-  }
+  cancel-carrier-trail _ =
+      named-or-new 6 _ _ _ _ cancels-one (λ u. kept (readyToUnload (cancelPort x)) u (placed x))
+      (λ u. rw (not-placed-new s i h u, new-is u) (new (readyToUnload (cancelPort x))))
     where
       kept : (y : Bool) → x .known ≡ true → (w : Bool)
           → Traces s i 6 (x .found) (cancelledBy y (cond w (judgedNo (x .found)) (withId 4 (placedAt (x .port) (foundOrNew x)))))
@@ -242,52 +218,23 @@ module _ (s : State) (i : Input) (h : sound s ≡ true) (a : eqb (answerIn s i) 
       new y = record { okId = λ z. clash z refl; uncancelled = λ z. clash refl z; plain = refl }
 
   -- 7: out of the buffer
-  carrier-out-trail : Fine s i 7 (carrierOut x)
-  carrier-out-trail = record {
-    fine = λ e.
-        named-changes 7 _ _ _ (λ m. refl)
-        (record { ident = record { okId = inl; boxed = λ z. clash z refl }; lid = same-lid refl refl refl; slots = same-slots refl refl });
-  }
+  carrier-out-trail : Fine 7 (carrierOut x)
+  carrier-out-trail _ =
+      named-changes 7 _ _ _ (λ m. refl)
+      (record { ident = record { okId = inl; boxed = λ z. clash z refl }; lid = same-lid refl refl refl; slots = same-slots refl refl })
 
-  carrier-in-trail : Fine s i 8 (carrierIn x)
-  carrier-in-trail = record {
-    fine = λ e.
-        named-changes 8 _ _ _ (λ m. refl)
-        (record { ident = same-id refl refl; lid = same-lid refl refl refl; slots = same-slots refl refl });
-  }
-
-  change-access-trail : Fine s i 9 (changeAccess x)
-  change-access-trail = record { fine = λ e. calm 9 _ _ _ (λ m. refl) }
-
-  change-service-status-trail : Fine s i 10 (changeServiceStatus x)
-  change-service-status-trail = record { fine = λ e. calm 10 _ _ _ (λ m. refl) }
-
-  reserve-at-port-trail : Fine s i 11 (reserveAtPort x)
-  reserve-at-port-trail = record { fine = λ e. calm 11 _ _ _ (λ m. refl) }
-
-  cancel-reservation-at-port-trail : Fine s i 12 (cancelReservationAtPort x)
-  cancel-reservation-at-port-trail = record { fine = λ e. calm 12 _ _ _ (λ m. refl) }
-
-  load-start-trail : Fine s i 13 (loadStart x)
-  load-start-trail = record { fine = λ e. calm 13 _ _ _ (λ m. refl) }
-
-  load-done-trail : Fine s i 14 (loadDone x)
-  load-done-trail = record { fine = λ e. calm 14 _ _ _ (λ m. refl) }
-
-  load-fail-trail : Fine s i 15 (loadFail x)
-  load-fail-trail = record { fine = λ e. calm 15 _ _ _ (λ m. refl) }
+  carrier-in-trail : Fine 8 (carrierIn x)
+  carrier-in-trail _ =
+      named-changes 8 _ _ _ (λ m. refl) (record { ident = same-id refl refl; lid = same-lid refl refl refl; slots = same-slots refl refl })
 
   -- 16: the ID is OK by a matching read
   unmatched : x .known ≡ false → matching x ≡ false
   unfolding matching
   unmatched u = rw u
 
-  id-read-trail : Fine s i 16 (idRead x)
-  id-read-trail = record {
-    fine = λ e. named-or-new 16 _ _ _ _ (λ j _ _. refl)
-        (λ u. rw (found-is u) (kept (clear (idRead x .grounds) refl e .0) u))
-        (λ u. rw (unmatched u, new-is u) new);
-  }
+  id-read-trail : Fine 16 (idRead x)
+  id-read-trail k =
+      named-or-new 16 _ _ _ _ (λ j _ _. refl) (λ u. rw (found-is u) (kept (k .0) u)) (λ u. rw (unmatched u, new-is u) new)
     where
       matched : (w : Bool) → eqb (cond w 3 2) 3 ≡ true → w ≡ true
       matched true z = refl
@@ -306,107 +253,91 @@ module _ (s : State) (i : Input) (h : sound s ≡ true) (a : eqb (answerIn s i) 
       new : Born s i 16 (withId 2 (placedAt (x .port) (newCarrier (x .name) 0)))
       new = record { okId = λ z. clash z refl; uncancelled = λ _. refl; plain = refl }
 
-  id-read-failed-trail : Fine s i 17 (idReadFailed x)
-  id-read-failed-trail = record {
-    fine = λ e.
-        tied-changes 17 _ _ _ (λ m. refl) (λ u. rw u (record {
-          ident = record { okId = λ z. clash z refl; boxed = λ z. clash z refl };
-          lid = same-lid refl refl refl;
-          slots = same-slots refl refl;
-        }));
-  }
+  id-read-failed-trail : Fine 17 (idReadFailed x)
+  id-read-failed-trail _ = tied-changes 17 _ _ _ (λ m. refl) (λ u. rw u (record {
+    ident = record { okId = λ z. clash z refl; boxed = λ z. clash z refl };
+    lid = same-lid refl refl refl;
+    slots = same-slots refl refl;
+  }))
 
   -- 18: into the buffer only with ID OK
-  move-in-trail : Fine s i 18 (moveIn x)
-  move-in-trail = record {
-    fine = λ e.
-        let k = clear (moveIn x .grounds) refl e in
-        tied-changes 18 _ _ _ (λ m. refl) (λ _. record {
-          ident = record { okId = inl; boxed = λ _. inr (and-r (atPort (x .held)) _ (k .1 .1 .1 .0)) };
-          lid = same-lid refl refl refl;
-          slots = same-slots refl refl;
-        });
-  }
+  move-in-trail : Fine 18 (moveIn x)
+  move-in-trail k = tied-changes 18 _ _ _ (λ m. refl) (λ _. record {
+    ident = record { okId = inl; boxed = λ _. inr (and-r (atPort (x .held)) _ (k .1 .1 .1 .0)) };
+    lid = same-lid refl refl refl;
+    slots = same-slots refl refl;
+  })
 
   -- 19: opened only with ID OK and not cancelled
-  open-trail : Fine s i 19 (openRow x)
-  open-trail = record {
-    fine = λ e.
-        let k = clear (openRow x .grounds) refl e in
-        let o = k .1 .1 .1 .0 in
-        let v = not-false (idOk (x .found)) (or-false-l _ _ (or-false-l _ _ o)) in
-        let w : isCancelled (x .found) ≡ false = search (or-false-r) depth 2 in
-        named-changes 19 _ _ _ (λ m. refl) (record {
-          ident = same-id refl refl;
-          lid = record { opens = λ _. inr (v, w); openOk = λ _ z. z; uncancelled = λ z. (z, refl) };
-          slots = same-slots refl refl;
-        });
-  }
+  open-trail : Fine 19 (openRow x)
+  open-trail k =
+      let o = k .1 .1 .1 .0 in
+      let v = not-false (idOk (x .found)) (or-false-l _ _ (or-false-l _ _ o)) in
+      let w : isCancelled (x .found) ≡ false = search (or-false-r) depth 2 in
+      named-changes 19 _ _ _ (λ m. refl) (record {
+        ident = same-id refl refl;
+        lid = record { opens = λ _. inr (v, w); openOk = λ _ z. z; uncancelled = λ z. (z, refl) };
+        slots = same-slots refl refl;
+      })
 
   -- 20: the slot map is reported
-  slot-map-trail : Fine s i 20 (slotMap x)
-  slot-map-trail = record {
-    fine = λ e.
-        let k = clear (slotMap x .grounds) refl e in
-        named-changes 20 _ _ _ (λ m. refl) (record {
-          ident = same-id refl refl;
-          lid = same-lid refl refl refl;
-          slots = record { waits = λ _. inr (done-to-found (k .1 .1 .0)); okSlot = λ z. clash z refl; accessed = inl };
-        });
-  }
+  slot-map-trail : Fine 20 (slotMap x)
+  slot-map-trail k = named-changes 20 _ _ _ (λ m. refl) (record {
+    ident = same-id refl refl;
+    lid = same-lid refl refl refl;
+    slots = record { waits = λ _. inr (done-to-found (k .1 .1 .0)); okSlot = λ z. clash z refl; accessed = inl };
+  })
 
   -- 21: accessed only with slot status OK
-  access-start-trail : Fine s i 21 (accessStart x)
-  access-start-trail = record {
-    fine = λ e.
-        let k = clear (accessStart x .grounds) refl e in
-        named-changes 21 _ _ _ (λ m. refl) (record {
-          ident = same-id refl refl;
-          lid = same-lid refl refl refl;
-          slots = record { waits = inl; okSlot = inl; accessed = λ _. inr (k .1 .1 .1 .0) };
-        });
-  }
+  access-start-trail : Fine 21 (accessStart x)
+  access-start-trail k = named-changes 21 _ _ _ (λ m. refl) (record {
+    ident = same-id refl refl;
+    lid = same-lid refl refl refl;
+    slots = record { waits = inl; okSlot = inl; accessed = λ _. inr (k .1 .1 .1 .0) };
+  })
 
-  access-end-trail : Fine s i 22 (accessEnd x)
-  access-end-trail = record {
-    fine = λ e. named-changes 22 _ _ _ (λ m. refl) (record {
-      ident = same-id refl refl;
-      lid = same-lid refl refl refl;
-      slots = record { waits = inl; okSlot = inl; accessed = λ z. clash (not-by (eqb (x .value) 0) 3 4 2 refl z) refl };
-    });
-  }
+  access-end-trail : Fine 22 (accessEnd x)
+  access-end-trail _ = named-changes 22 _ _ _ (λ m. refl) (record {
+    ident = same-id refl refl;
+    lid = same-lid refl refl refl;
+    slots = record { waits = inl; okSlot = inl; accessed = λ z. clash (not-by (eqb (x .value) 0) 3 4 2 refl z) refl };
+  })
 
   -- 23: closed
-  close-trail : Fine s i 23 (closeRow x)
-  close-trail = record {
-    fine = λ e. named-changes 23 _ _ _ (λ m. refl) (record {
-      ident = same-id refl refl;
-      lid = record { opens = λ z. clash z refl; openOk = λ z. clash z refl; uncancelled = λ z. (z, refl) };
-      slots = same-slots refl refl;
-    });
-  }
-
-  unload-start-trail : Fine s i 24 (unloadStart x)
-  unload-start-trail = record { fine = λ e. calm 24 _ _ _ (λ m. refl) }
-
-  unload-done-trail : Fine s i 25 (unloadDone x)
-  unload-done-trail = record { fine = λ e. calm 25 _ _ _ (λ m. refl) }
-
-  unload-fail-trail : Fine s i 26 (unloadFail x)
-  unload-fail-trail = record { fine = λ e. calm 26 _ _ _ (λ m. refl) }
-
-  rows-trail : (n : ℕ) → Fine s i n (rowOf n x)
-  unfolding rowOf
-  rows-trail n =
-      one-of n 1 bind-trail (one-of n 2 cancel-bind-trail (one-of n 3 carrier-notification-trail
-      (one-of n 4 cancel-carrier-notification-trail (one-of n 5 proceed-with-carrier-trail (one-of n 6 cancel-carrier-trail
-      (one-of n 7 carrier-out-trail (one-of n 8 carrier-in-trail (one-of n 9 change-access-trail (one-of n 10 change-service-status-trail
-      (one-of n 11 reserve-at-port-trail (one-of n 12 cancel-reservation-at-port-trail (one-of n 13 load-start-trail
-      (one-of n 14 load-done-trail (one-of n 15 load-fail-trail (one-of n 16 id-read-trail (one-of n 17 id-read-failed-trail
-      (one-of n 18 move-in-trail (one-of n 19 open-trail (one-of n 20 slot-map-trail (one-of n 21 access-start-trail
-      (one-of n 22 access-end-trail (one-of n 23 close-trail (one-of n 24 unload-start-trail (one-of n 25 unload-done-trail
-      (one-of n 26 unload-fail-trail
-      (record { fine = λ e. absurd (omega arith) }))))))))))))))))))))))))))
+  close-trail : Fine 23 (closeRow x)
+  close-trail _ = named-changes 23 _ _ _ (λ m. refl) (record {
+    ident = same-id refl refl;
+    lid = record { opens = λ z. clash z refl; openOk = λ z. clash z refl; uncancelled = λ z. (z, refl) };
+    slots = same-slots refl refl;
+  })
 
   pub trail : (n : ℕ) → judge (rowOf n x .grounds) ≡ 0 → Trail s i n (rowOf n x .effect)
-  trail n = rows-trail n .fine
+  trail = walk-accepting (Trail s i) x (record {
+    bind = λ _. made-new 1 _ _ _ (λ m. refl) (says-nothing 1 (x .port) (λ m. refl));
+    cancelBind = λ _. calm 2 _ _ _ (λ m. refl);
+    carrierNotification = λ _. made-new 3 _ _ _ (λ m. refl) (says-nothing 3 0 (λ m. refl));
+    cancelCarrierNotification = λ _. calm 4 _ _ _ (λ m. refl);
+    proceedWithCarrier = proceed-with-carrier-trail;
+    cancelCarrier = cancel-carrier-trail;
+    carrierOut = carrier-out-trail;
+    carrierIn = carrier-in-trail;
+    changeAccess = λ _. calm 9 _ _ _ (λ m. refl);
+    changeServiceStatus = λ _. calm 10 _ _ _ (λ m. refl);
+    reserveAtPort = λ _. calm 11 _ _ _ (λ m. refl);
+    cancelReservationAtPort = λ _. calm 12 _ _ _ (λ m. refl);
+    loadStart = λ _. calm 13 _ _ _ (λ m. refl);
+    loadDone = λ _. calm 14 _ _ _ (λ m. refl);
+    loadFail = λ _. calm 15 _ _ _ (λ m. refl);
+    idRead = id-read-trail;
+    idReadFailed = id-read-failed-trail;
+    moveIn = move-in-trail;
+    openRow = open-trail;
+    slotMap = slot-map-trail;
+    accessStart = access-start-trail;
+    accessEnd = access-end-trail;
+    closeRow = close-trail;
+    unloadStart = λ _. calm 24 _ _ _ (λ m. refl);
+    unloadDone = λ _. calm 25 _ _ _ (λ m. refl);
+    unloadFail = λ _. calm 26 _ _ _ (λ m. refl);
+    none = λ _. never;
+  })
