@@ -21,13 +21,11 @@ use Rattle.rules.specs.State.{State, spotOf, portOf, recordOf}
 use Rattle.rules.specs.Sound.{sound}
 use Rattle.rules.specs.Seen.{Input, isNamed, nameStands, see}
 use Rattle.rules.specs.Row.{Row, judge, onPortAndGone, onBoth, placed, unknownPod, foundOrNew}
-use Rattle.rules.specs.Booking.{bind, meant, meantStands, onePair, cancelBind, carrierNotification, cancelCarrierNotification}
+use Rattle.rules.specs.Booking.{meant, meantStands, onePair, cancelBind}
 use Rattle.rules.specs.Verdict.{takesUnknownPod, proceedWithCarrier, cancelAt, cancelPort, failed, cancelCarrier}
-use Rattle.rules.specs.Buffer.{carrierOut, carrierIn, moveIn}
-use Rattle.rules.specs.Service.{changeAccess, changeServiceStatus, reserveAtPort, cancelReservationAtPort}
-use Rattle.rules.specs.Transfer.{loadStart, loadDone, loadFail, unloadStart, unloadDone, unloadFail}
+use Rattle.rules.specs.Buffer.{moveIn}
 use Rattle.rules.specs.Reading.{displaced, idRead, idReadFailed}
-use Rattle.rules.specs.Opening.{openRow, slotMap, accessStart, accessEnd, leavesPort, closeRow}
+use Rattle.rules.specs.Opening.{leavesPort, closeRow}
 use Rattle.rules.specs.Rows.{rowOf}
 use Rattle.rules.proofs.Accepts.{Clear, walk-accepting, never}
 use Rattle.rules.proofs.SoundFacts.{port-fits, placed-tied}
@@ -97,10 +95,6 @@ module _ (s : State) (i : Input) (h : sound s ≡ true) where
   unfolding see
   given-port e q =
       still-in s (x .port) q (leb-true 1 (x .port) (and-l _ _ e)) (leb-true (x .port) (length (s .ports)) (and-r (leb 1 (x .port)) _ e))
-
-  -- a record's own port, where it has one
-  own-port : (k : ℕ) → (recordOf s k .port ≡ 0 → ⊥) → (q : Port) → Still s (recordOf s k .port) q
-  own-port k n q = still-in s (recordOf s k .port) q (omega arith) (port-fits s h k)
 
   -- no record has the input's name
   pub no-namesake : x .known ≡ false → (j : ℕ) → j < length (s .carriers)

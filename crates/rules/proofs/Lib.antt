@@ -11,6 +11,7 @@ pub mod Allowed
 pub mod Accepts
 pub mod Apt
 pub mod SoundParts
+pub mod SoundTests
 pub mod Orderly
 pub mod Keep
 pub mod KeepShapes

@@ -6,7 +6,7 @@ use mathlib.Core.Logic.{_≢_, _⊎_, inl, inr}
 use mathlib.Core.Bool.{Bool, true, false, not, cond, _&&_, _||_}
 use lib.ListN.{length, getD}
 use lib.Dec.{eqb}
-use borrow.Author.Tests.{eqb-true, lt-ltb}
+use borrow.Author.Tests.{lt-ltb}
 use Rattle.lists.proofs.Bools.{clash, and-r, and-i, or-l, or-false-l, or-false-r, not-true, not-false}
 use Rattle.lists.proofs.Tests.{where-holds}
 use Rattle.records.specs.declared.name.Name.{Name}
@@ -23,11 +23,8 @@ use Rattle.rules.specs.State.{State, recordOf}
 use Rattle.rules.specs.Sound.{sound}
 use Rattle.rules.specs.Seen.{Input, isNamed, nameStands, see}
 use Rattle.rules.specs.Row.{Row, judge, onPortAndGone, onBoth, otherPort, placed, foundOrNew}
-use Rattle.rules.specs.Booking.{bind, cancelBind, carrierNotification, cancelCarrierNotification}
 use Rattle.rules.specs.Verdict.{canProceed, proceedWithCarrier, cancelPort, failed, cancelCarrier}
 use Rattle.rules.specs.Buffer.{carrierOut, carrierIn, moveIn}
-use Rattle.rules.specs.Service.{changeAccess, changeServiceStatus, reserveAtPort, cancelReservationAtPort}
-use Rattle.rules.specs.Transfer.{loadStart, loadDone, loadFail, unloadStart, unloadDone, unloadFail}
 use Rattle.rules.specs.Reading.{matching, idRead, idReadFailed}
 use Rattle.rules.specs.Opening.{openRow, slotMap, accessStart, accessEnd, closeRow}
 use Rattle.rules.specs.Rows.{rowOf}
