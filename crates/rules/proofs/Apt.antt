@@ -1,34 +1,36 @@
 -- What holds of each row's effect where the row accepts: a record keeps its name, a new one's name is new, and so on.
 use Prim.Native.Nat.{ℕ, _-_, _≤_, _<_}
 use native.Mathlib.Omega.{arith}
-use mathlib.Core.Path.{_≡_, refl, sym}
+use mathlib.Core.Path.{_≡_, refl, ap, sym, _∙_}
 use mathlib.Core.Logic.{_≢_}
-use mathlib.Core.Bool.{Bool, true, false, not, cond, _||_}
+use mathlib.Core.Bool.{Bool, true, false, not, cond}
 use lib.ListN.{length, getD, List·getD-eq-default}
-use lib.Dec.{eqb, leb, ltb}
-use borrow.Author.Tests.{eqb-true, eqb-false, leb-true, ltb-true, ltb-false, lt-ltb, le-ltb, ne-eqb}
-use Rattle.lists.proofs.Bools.{clash, and-l, and-r, not-true, not-false, or-other}
+use lib.Dec.{eqb, ltb}
+use borrow.Author.Tests.{eqb-true, eqb-false, ltb-true, ltb-false, lt-ltb, le-ltb, ne-eqb}
+use Rattle.lists.proofs.Bools.{clash, cond-ind, and-l, and-r, not-true, not-false}
 use Rattle.lists.proofs.Tests.{nowhere}
 use Rattle.records.specs.declared.port.Port.{Port}
 use Rattle.records.specs.declared.carrier.Carrier.{Carrier}
 use Rattle.records.specs.Names.{sameName}
 use Rattle.records.specs.Ports.{noPort, toUnload}
-use Rattle.records.specs.Carriers.{noCarrier, atPort, untied, placedAt, proceeded, judgedNo}
-use Rattle.records.specs.Fields.{withId}
+use Rattle.records.specs.Carriers.{noCarrier, newCarrier, atPort, untied}
 use Rattle.rules.specs.declared.row.Seen.{Seen}
 use Rattle.rules.specs.declared.row.Effect.{Effect}
 use Rattle.rules.specs.State.{State, spotOf, portOf, recordOf}
 use Rattle.rules.specs.Sound.{sound}
 use Rattle.rules.specs.Seen.{Input, isNamed, nameStands, see}
-use Rattle.rules.specs.Row.{Row, judge, onPortAndGone, onBoth, placed, unknownPod, foundOrNew}
+use Rattle.rules.specs.Row.{Row, judge, onPortAndGone, onBoth, placed, foundOrNew}
 use Rattle.rules.specs.Booking.{meant, meantStands, onePair, cancelBind}
-use Rattle.rules.specs.Verdict.{takesUnknownPod, proceedWithCarrier, cancelAt, cancelPort, failed, cancelCarrier}
+use Rattle.rules.specs.Verdict.{proceedWithCarrier, cancelAt, cancelPort, failed, cancelCarrier}
 use Rattle.rules.specs.Buffer.{moveIn}
 use Rattle.rules.specs.Reading.{displaced, idRead, idReadFailed}
 use Rattle.rules.specs.Opening.{leavesPort, closeRow}
 use Rattle.rules.specs.Rows.{rowOf}
 use Rattle.rules.proofs.Accepts.{Clear, walk-accepting, never}
+use Rattle.rules.proofs.UnknownPod.{pod-there}
 use Rattle.rules.proofs.SoundFacts.{port-fits, placed-tied}
+use Rattle.rules.proofs.SoundParts.{facts}
+use Rattle.rules.proofs.KeepSeen.{given-range, found-live}
 
 pub record Apt (s : State) (e : Effect) : Type 0 where
   -- no port changes only into itself
@@ -46,10 +48,6 @@ pub record Apt (s : State) (e : Effect) : Type 0 where
 -- a port in range stands in the list
 in-list : (p n : ℕ) → 1 ≤ p → p ≤ n → spotOf p < n
 in-list p n a b = let z : spotOf p ≡ p - 1 = rw (ne-eqb p 0 (λ e. omega arith)) in omega arith
-
-or-right : (a b c : Bool) → ((a || b) || c) ≡ true → (a || (b || c)) ≡ true
-or-right true b c e = e
-or-right false b c e = e
 
 module _ (s : State) where
   -- what an effect does to its port
@@ -92,9 +90,7 @@ module _ (s : State) (i : Input) (h : sound s ≡ true) where
 
   -- the port given is the tool's
   given-port : x .isport ≡ true → (q : Port) → Still s (x .port) q
-  unfolding see
-  given-port e q =
-      still-in s (x .port) q (leb-true 1 (x .port) (and-l _ _ e)) (leb-true (x .port) (length (s .ports)) (and-r (leb 1 (x .port)) _ e))
+  given-port e q = let r = given-range s i (facts s h) e in still-in s (x .port) q (r .0) (r .1)
 
   -- no record has the input's name
   pub no-namesake : x .known ≡ false → (j : ℕ) → j < length (s .carriers)
@@ -103,8 +99,7 @@ module _ (s : State) (i : Input) (h : sound s ≡ true) where
   no-namesake e = nowhere (isNamed (x .name)) (s .carriers) noCarrier (ltb-false _ _ e)
 
   pub stands-in : x .known ≡ true → x .stands < length (s .carriers)
-  unfolding see
-  stands-in e = ltb-true (x .stands) (length (s .carriers)) e
+  stands-in = found-live s i (facts s h)
 
   -- a new record with the input's name
   new-apt : (p : ℕ) (q : Port) (c : Carrier) → Still s p q → x .known ≡ false → c .name ≡ x .name
@@ -132,13 +127,24 @@ module _ (s : State) (i : Input) (h : sound s ≡ true) where
     none = λ e b. clash (not-false (x .known) e) (le-ltb (x .stands) (length (s .carriers)) b);
   }
 
-  found-name : x .known ≡ true → foundOrNew x .name ≡ x .found .name
+  pub found-is : x .known ≡ true → foundOrNew x ≡ x .found
   unfolding foundOrNew
-  found-name e = rw e
+  found-is e = rw e
+
+  pub new-is : x .known ≡ false → foundOrNew x ≡ newCarrier (x .name) 0
+  unfolding foundOrNew
+  new-is e = rw e
+
+  found-name : x .known ≡ true → foundOrNew x .name ≡ x .found .name
+  found-name e = ap (λ (c : Carrier). c .name) (found-is e)
 
   new-name : x .known ≡ false → foundOrNew x .name ≡ x .name
-  unfolding foundOrNew
-  new-name e = rw e
+  new-name e = ap (λ (c : Carrier). c .name) (new-is e)
+
+  -- rows 5 and 6 keep the name, of a placed carrier and of any other
+  kept-name : (c d : Carrier) → c .name ≡ x .found .name → d .name ≡ foundOrNew x .name → x .known ≡ true
+      → cond (placed x) c d .name ≡ x .found .name
+  kept-name c d p q u = cond-ind (λ (c : Carrier). c .name ≡ x .found .name) (placed x) (λ _. p) (λ _. q ∙ found-name u)
 
   -- only the port given changes, and a record may go
   given-apt : x .isport ≡ true → (q : Port) (k : ℕ) → Apt s (onPortAndGone (x .count) (x .port) q k)
@@ -155,10 +161,6 @@ module _ (s : State) (i : Input) (h : sound s ≡ true) where
   unfolding see
   own-fits = port-fits s h (x .stands)
 
-  port-given-fits : x .isport ≡ true → x .port ≤ length (s .ports)
-  unfolding see
-  port-given-fits e = leb-true (x .port) (length (s .ports)) (and-r (leb 1 (x .port)) _ e)
-
   -- a named record that is placed at a port is tied to it
   found-port : x .known ≡ true → atPort (x .found) ≡ true → (q : Port) → Still s (x .found .port) q
   unfolding see recordOf
@@ -172,37 +174,23 @@ module _ (s : State) (i : Input) (h : sound s ≡ true) where
   abbrev Fine : Row → Type 0
   Fine r = Clear (r .grounds) → Apt s (r .effect)
 
+  meant-fits : meant x .port ≤ length (s .ports)
+  unfolding see meant
+  meant-fits =
+      cond-ind (λ (c : Carrier). c .port ≤ length (s .ports)) (x .blank)
+      (λ _. port-fits s h (x .holds)) (λ _. port-fits s h (x .stands))
+
   cancel-bind-apt : Fine (cancelBind x)
   unfolding see meant onePair
   cancel-bind-apt k =
       let n : not (untied (meant x)) ≡ true = let o = k .1 .1 .1 .1 .0 in search (and-l, and-r) depth 5 in
       let z = eqb-false (meant x .port) 0 (not-true _ n) in
-      port-apt s (meant x .port) _ (meantStands x) (still-in s (meant x .port) _ (omega arith) (fits (x .blank)))
-    where
-      fits : (w : Bool) → cond w (x .held) (x .found) .port ≤ length (s .ports)
-      fits true = port-fits s h (x .holds)
-      fits false = port-fits s h (x .stands)
+      port-apt s (meant x .port) _ (meantStands x) (still-in s (meant x .port) _ (omega arith) meant-fits)
 
   -- a placed carrier leaves its port as it is, any other goes to the port given
   pod-port : (w : Bool) → (w ≡ false → x .isport ≡ true) → (q : Port) → Still s (cond w 0 (x .port)) (cond w noPort q)
   pod-port true f q = still-none s
   pod-port false f q = given-port (f refl) q
-
-  unknown-pod-port : unknownPod x ≡ true → x .isport ≡ true
-  unfolding unknownPod
-  unknown-pod-port e = search (and-l, and-r) depth 6
-
-  -- what rows 5 and 6 take is an unknown pod, unless the carrier is placed
-  pod-given : (x .known || unknownPod x) ≡ true → (not (x .known) || placed x || takesUnknownPod x) ≡ true
-      → placed x ≡ false → x .isport ≡ true
-  unfolding takesUnknownPod
-  pod-given a b f = go (x .known) refl
-    where
-      go : (w : Bool) → x .known ≡ w → x .isport ≡ true
-      go true e =
-          unknown-pod-port (and-r (untied (x .found)) (unknownPod x)
-          (or-other (placed x) _ (or-other (not (x .known)) _ (or-right (not (x .known)) (placed x) _ b) (rw e)) f))
-      go false e = unknown-pod-port (or-other (x .known) (unknownPod x) a e)
 
   pub not-placed-new : x .known ≡ false → placed x ≡ false
   unfolding placed
@@ -210,38 +198,28 @@ module _ (s : State) (i : Input) (h : sound s ≡ true) where
 
   proceed-with-carrier-apt : Fine (proceedWithCarrier x)
   proceed-with-carrier-apt k =
-      named-apt _ _ (x .count) _ (pod-port (placed x) (pod-given (k .1 .1 .0) (k .1 .1 .1 .0)) _) stands-not-count
-      (kept (placed x)) (λ u. rw (not-placed-new u) (new-name u))
-    where
-      kept : (w : Bool) → x .known ≡ true
-          → cond w (proceeded (x .found)) (withId 3 (placedAt (x .port) (foundOrNew x))) .name ≡ x .found .name
-      kept true u = refl
-      kept false u = found-name u
+      let d = pod-there x (k .1 .1 .0) (k .1 .1 .1 .0) in
+      named-apt _ _ (x .count) _ (pod-port (placed x) (λ n. d n .port) _) stands-not-count
+      (kept-name _ _ refl refl) (λ u. rw (not-placed-new u) (new-name u))
+
+  cancel-at-fits : (placed x ≡ false → x .isport ≡ true) → cancelAt x ≤ length (s .ports)
+  unfolding cancelAt
+  cancel-at-fits given =
+      cond-ind (λ p. p ≤ length (s .ports)) (placed x)
+      (λ _. cond-ind (λ p. p ≤ length (s .ports)) (atPort (x .found)) (λ _. own-fits) (λ _. omega arith))
+      (λ n. given-range s i (facts s h) (given n) .1)
 
   cancel-carrier-apt : Fine (cancelCarrier x)
-  unfolding cancelAt failed
+  unfolding failed
   cancel-carrier-apt k =
-      named-apt _ _ (x .count) _ (at (eqb (cancelAt x) 0) refl (fits (placed x) refl (pod-given (k .1 .1 .0) (k .1 .1 .1 .0))))
-      stands-not-count (kept (placed x)) (λ u. rw (not-placed-new u) (new-name u))
+      let d = pod-there x (k .1 .1 .0) (k .1 .1 .1 .0) in
+      named-apt _ _ (x .count) _ (at (eqb (cancelAt x) 0) refl (cancel-at-fits (λ n. d n .port))) stands-not-count
+      (kept-name _ _ refl refl) (λ u. rw (not-placed-new u) (new-name u))
     where
-      fits : (w : Bool) → placed x ≡ w → (placed x ≡ false → x .isport ≡ true)
-          → cond w (cond (atPort (x .found)) (x .found .port) 0) (x .port) ≤ length (s .ports)
-      fits true e f = at-port (atPort (x .found))
-        where
-          at-port : (a : Bool) → cond a (x .found .port) 0 ≤ length (s .ports)
-          at-port true = own-fits
-          at-port false = omega arith
-      fits false e f = port-given-fits (f e)
-
       at : (w : Bool) → eqb (cancelAt x) 0 ≡ w → cancelAt x ≤ length (s .ports)
           → Still s (cancelAt x) (cond w noPort (toUnload (cancelPort x)))
       at true e b = rw (eqb-true (cancelAt x) 0 e) (still-none s)
       at false e b = let z = eqb-false (cancelAt x) 0 e in still-in s (cancelAt x) _ (omega arith) b
-
-      kept : (w : Bool) → x .known ≡ true
-          → cond w (judgedNo (x .found)) (withId 4 (placedAt (x .port) (foundOrNew x))) .name ≡ x .found .name
-      kept true u = refl
-      kept false u = found-name u
 
   id-read-apt : Fine (idRead x)
   unfolding displaced

@@ -77,9 +77,6 @@ module _ {s : State} {i : Input} {n : ℕ} {c after : Carrier} where
 pub untouched : (s : State) (i : Input) (n : ℕ) (c : Carrier) → does s i n 6 (c .name) ≡ false → Traces s i n c c
 untouched s i n c d = record { ident = same-id refl refl; lid = same-lid d refl refl; slots = same-slots refl refl }
 
-neither : {a b : Bool} → a ≡ false → b ≡ false → (a || b) ≡ false
-neither p q = rw (p, q)
-
 module _ (s : State) (i : Input) where
   abbrev event : Event
   event = record { before = s; input = i }
@@ -96,7 +93,7 @@ module _ (s : State) (i : Input) where
 
     never-cancelled : does s i (i .number) 6 m ≡ false → wasCancelled m h ≡ false → wasCancelled m (event ∷ h) ≡ false
     unfolding wasCancelled any done
-    never-cancelled x y = neither x y
+    never-cancelled x y = rw (x, y)
 
     mapped-now : does s i (i .number) 20 m ≡ true → wasMapped m (event ∷ h) ≡ true
     unfolding wasMapped any done

@@ -10,12 +10,12 @@ use borrow.Author.Tests.{eqb-true, eqb-false, leb-true, lt-ltb}
 use Rattle.lists.proofs.Bools.{clash, and-l, and-r, or-other, not-true}
 use Rattle.records.specs.declared.port.Port.{Port}
 use Rattle.records.specs.Ports.{readyToLoad, unbound}
-use Rattle.records.specs.Fields.{withTransfer}
+use Rattle.records.specs.Fields.{withTransfer, withAccess, withReserved}
 use Rattle.records.specs.Carriers.{expected, untied}
 use Rattle.rules.specs.declared.row.Seen.{Seen}
 use Rattle.rules.specs.State.{State, portOf, recordOf}
 use Rattle.rules.specs.Seen.{Input, see}
-use Rattle.rules.specs.Row.{onPortAndGone}
+use Rattle.rules.specs.Row.{onPort, onPortAndGone}
 use Rattle.rules.specs.Booking.{meant, meantPort, meantStands, onePair, cancelBind, cancelCarrierNotification}
 use Rattle.rules.specs.Service.{goesOut, comesIn, changeAccess, changeServiceStatus, reserveAtPort, cancelReservationAtPort}
 use Rattle.rules.specs.Transfer.{loadStart, loadDone, loadFail, unloadStart, unloadDone, unloadFail}
@@ -31,12 +31,24 @@ module _ (s : State) (i : Input) (f : Facts s) where
   x = see s i
 
   -- ── Rows 9 to 12 ──
+  -- the access mode and the reservation are marks, which nothing else depends on
+  marks-keep : {a r : ℕ} → a ≤ 1 → r ≤ 1
+      → Keeps s (onPort (length (s .carriers)) (x .port) (withAccess a (withReserved r (portOf s (x .port)))))
+  marks-keep a r =
+      let h = f .ports (x .port) in
+      calm-keeps s f (x .port) _ (marked-fits _ h a r (h .tie) (h .tag)) (record { tie = refl; quiet = λ a b. (a, b) })
+
   pub change-access-keeps : Good s (changeAccess x)
   unfolding see
-  change-access-keeps k _ =
-      let h = f .ports (x .port) in
-      calm-keeps s f (x .port) _ (marked-fits _ h (leb-true _ _ (k .1 .0)) (h .reserved) (h .tie) (h .tag))
-      (record { tie = refl; quiet = λ a b. (a, b) })
+  change-access-keeps k _ = marks-keep (leb-true _ _ (k .1 .0)) (f .ports (x .port) .reserved)
+
+  pub reserve-at-port-keeps : Good s (reserveAtPort x)
+  unfolding see
+  reserve-at-port-keeps _ _ = marks-keep (f .ports (x .port) .access) (omega arith)
+
+  pub cancel-reservation-at-port-keeps : Good s (cancelReservationAtPort x)
+  unfolding see
+  cancel-reservation-at-port-keeps _ _ = marks-keep (f .ports (x .port) .access) (omega arith)
 
   -- the transfer state stays, or passes between OUT OF SERVICE and READY TO LOAD
   served : (v : ℕ) → (goesOut x && not (readyToLoad (x .here))) ≡ false
@@ -81,20 +93,6 @@ module _ (s : State) (i : Input) (f : Facts s) where
   change-service-status-keeps k _ =
       let v = served _ (k .1 .1 .1 .0) refl in
       calm-keeps s f (x .port) _ (served-fits _ (f .ports (x .port)) v) (served-calm _ v)
-
-  pub reserve-at-port-keeps : Good s (reserveAtPort x)
-  unfolding see
-  reserve-at-port-keeps _ _ =
-      let h = f .ports (x .port) in
-      calm-keeps s f (x .port) _ (marked-fits _ h (h .access) (omega arith) (h .tie) (h .tag))
-      (record { tie = refl; quiet = λ a b. (a, b) })
-
-  pub cancel-reservation-at-port-keeps : Good s (cancelReservationAtPort x)
-  unfolding see
-  cancel-reservation-at-port-keeps _ _ =
-      let h = f .ports (x .port) in
-      calm-keeps s f (x .port) _ (marked-fits _ h (h .access) (omega arith) (h .tie) (h .tag))
-      (record { tie = refl; quiet = λ a b. (a, b) })
 
   -- ── Rows 13 to 15 and 24 to 26 ──
   pub load-start-keeps : Good s (loadStart x)

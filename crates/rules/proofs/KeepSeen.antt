@@ -9,7 +9,7 @@ use lib.ListN.{length, List·getD-eq-default}
 use lib.Dec.{eqb, leb}
 use borrow.Author.Tests.{eqb-true, leb-true, leb-false, ltb-true, ltb-false, le-leb, eq-eqb, ne-eqb}
 use Rattle.lists.specs.Lists.{every, howMany, between, fill}
-use Rattle.lists.proofs.Bools.{clash, and-l, and-r, and-i, or-r, not-false}
+use Rattle.lists.proofs.Bools.{clash, cond-ind, and-l, and-r, and-i, or-r, not-false}
 use Rattle.lists.proofs.Tests.{nowhere, where-not, where-holds, any-here}
 use Rattle.records.specs.declared.name.Name.{Name}
 use Rattle.records.specs.declared.carrier.Carrier.{Carrier}
@@ -141,19 +141,18 @@ module _ (s : State) (i : Input) (f : Facts s) where
       where-not (isTiedTo (x .port)) (s .carriers) noCarrier
       (nowhere (isTiedTo (x .port)) (s .carriers) noCarrier (ltb-false (x .holds) (length (s .carriers)) e))
 
-  pub held-there : x .held .port ≢ 0 → x .tied ≡ true
-  held-there n = go (x .tied) refl
+  held-some : x .held ≢ noCarrier → x .tied ≡ true
+  held-some n = go (x .tied) refl
     where
       go : (w : Bool) → x .tied ≡ w → w ≡ true
       go true e = refl
-      go false e = absurd (n (ap (λ (c : Carrier). c .port) (held-none e)))
+      go false e = absurd (n (held-none e))
+
+  pub held-there : x .held .port ≢ 0 → x .tied ≡ true
+  held-there n = held-some (λ e. n (ap (λ (c : Carrier). c .port) e))
 
   pub held-placed : x .held .place ≢ 0 → x .tied ≡ true
-  held-placed n = go (x .tied) refl
-    where
-      go : (w : Bool) → x .tied ≡ w → w ≡ true
-      go true e = refl
-      go false e = absurd (n (ap (λ (c : Carrier). c .place) (held-none e)))
+  held-placed n = held-some (λ e. n (ap (λ (c : Carrier). c .place) e))
 
   pub nobody-tied : x .tied ≡ false → 1 ≤ x .port → (j : ℕ) → j < length (s .carriers) → recordOf s j .port ≢ x .port
   unfolding see recordOf tieStands
@@ -183,19 +182,13 @@ module _ (s : State) (i : Input) (f : Facts s) where
   -- the name's record, or a new one
   pub either-fits : x .named ≡ true → Fits (length (s .ports)) (s .places) (foundOrNew x)
   unfolding foundOrNew
-  either-fits n = go (x .known) refl
-    where
-      go : (w : Bool) → x .known ≡ w → Fits (length (s .ports)) (s .places) (cond w (x .found) (newCarrier (x .name) 0))
-      go true e = found-fits e
-      go false e = new-fits _ _ (x .name) 0 (name-fits n) (omega arith)
+  either-fits n =
+      cond-ind (Fits (length (s .ports)) (s .places)) (x .known) found-fits
+      (λ _. new-fits _ _ (x .name) 0 (name-fits n) (omega arith))
 
   pub either-named : foundOrNew x .name ≡ x .name
   unfolding foundOrNew
-  either-named = go (x .known) refl
-    where
-      go : (w : Bool) → x .known ≡ w → cond w (x .found) (newCarrier (x .name) 0) .name ≡ x .name
-      go true e = found-named e
-      go false e = refl
+  either-named = cond-ind (λ (c : Carrier). c .name ≡ x .name) (x .known) found-named (λ _. refl)
 
   -- it is closed, unless it is placed
   pub either-shut : placed x ≡ false → isOpen (foundOrNew x) ≡ true → ⊥

@@ -5,20 +5,21 @@ use mathlib.Core.Path.{_≡_, refl}
 use mathlib.Core.Bool.{Bool, true, false, not, cond, _&&_, _||_}
 use lib.Dec.{eqb}
 use borrow.Author.Tests.{eqb-true, eqb-false}
-use Rattle.lists.proofs.Bools.{clash, and-l, and-r, or-r, or-other, not-true}
+use Rattle.lists.proofs.Bools.{clash, and-r, or-r, or-other, not-true}
 use Rattle.records.specs.declared.name.Name.{Name}
 use Rattle.records.specs.declared.port.Port.{Port}
 use Rattle.records.specs.declared.carrier.Carrier.{Carrier}
 use Rattle.records.specs.Names.{noName, sameName, holdsName}
-use Rattle.records.specs.Ports.{noPort, idle, hasPod, tagFailed, readyToUnload, toUnload}
-use Rattle.records.specs.Carriers.{atPort, inAccess, idWaits, slotWaits, untied, placedAt, proceeded, judgedNo, cancelledBy}
+use Rattle.records.specs.Ports.{noPort, idle, readyToUnload, toUnload}
+use Rattle.records.specs.Carriers.{atPort, inAccess, idWaits, slotWaits, placedAt, proceeded, judgedNo, cancelledBy}
 use Rattle.records.specs.Fields.{tiedTo, withId}
 use Rattle.rules.specs.declared.row.Seen.{Seen}
 use Rattle.rules.specs.declared.row.Effect.{Effect}
 use Rattle.rules.specs.State.{State}
 use Rattle.rules.specs.Seen.{Input, see}
-use Rattle.rules.specs.Row.{otherPort, placed, unknownPod, foundOrNew}
-use Rattle.rules.specs.Verdict.{takesUnknownPod, proceedWithCarrier, canCancel, cancelAt, cancelPort, failed, cancelCarrier}
+use Rattle.rules.specs.Row.{otherPort, placed, foundOrNew}
+use Rattle.rules.specs.Verdict.{proceedWithCarrier, canCancel, cancelAt, cancelPort, failed, cancelCarrier}
+use Rattle.rules.proofs.UnknownPod.{Pod, pod-there, found-untied}
 use Rattle.rules.proofs.Apt.{Apt}
 use Rattle.rules.proofs.SoundParts.{PortFits, Fits, Facts}
 use Rattle.rules.proofs.Keep.{Keeps}
@@ -58,39 +59,6 @@ module _ (s : State) (i : Input) (f : Facts s) where
   abbrev x : Seen
   x = see s i
 
-  -- a carrier that isn't placed takes an unknown pod, and is untied
-  pub record Pod : Type 0 where
-    pub port : x .isport ≡ true
-    pub still : idle (x .here) ≡ true
-    pub free : x .tied ≡ false
-
-  unknown-pod : unknownPod x ≡ true → Pod
-  unfolding unknownPod
-  unknown-pod e = record {
-    port = search (and-l, and-r) depth 6;
-    still = search (and-l, and-r) depth 6;
-    free = not-true (x .tied) (and-r (x .isport && hasPod (x .here) && idle (x .here) && tagFailed (x .here)) _ e);
-  }
-
-  takes : x .known ≡ true → (not (x .known) || placed x || takesUnknownPod x) ≡ true → placed x ≡ false → takesUnknownPod x ≡ true
-  takes u b n = or-other (not (x .known) || placed x) _ b (neither (x .known) (placed x) u n)
-    where
-      neither : (a b : Bool) → a ≡ true → b ≡ false → (not a || b) ≡ false
-      neither true b p q = q
-      neither false b p q = clash p refl
-
-  pod-there : (x .known || unknownPod x) ≡ true → (not (x .known) || placed x || takesUnknownPod x) ≡ true → placed x ≡ false → Pod
-  unfolding takesUnknownPod
-  pod-there a b n = go (x .known) refl
-    where
-      go : (w : Bool) → x .known ≡ w → Pod
-      go true e = unknown-pod (and-r (untied (x .found)) (unknownPod x) (takes e b n))
-      go false e = unknown-pod (or-other (x .known) (unknownPod x) a e)
-
-  found-untied : (not (x .known) || placed x || takesUnknownPod x) ≡ true → placed x ≡ false → x .known ≡ true → x .found .port ≡ 0
-  unfolding takesUnknownPod
-  found-untied b n u = eqb-true (x .found .port) 0 (and-l _ _ (takes u b n))
-
   -- ── Row 5 ──
   abbrev proceeding : Bool → Bool → Effect
   proceeding w m = record {
@@ -105,9 +73,9 @@ module _ (s : State) (i : Input) (f : Facts s) where
   pub proceed-with-carrier-keeps : Good s (proceedWithCarrier x)
   unfolding see
   proceed-with-carrier-keeps k a =
-      go (placed x) refl (not (x .known)) refl (k .0) (pod-there (k .1 .1 .0) (k .1 .1 .1 .0)) (found-untied (k .1 .1 .1 .0)) a
+      go (placed x) refl (not (x .known)) refl (k .0) (pod-there x (k .1 .1 .0) (k .1 .1 .1 .0)) (found-untied x (k .1 .1 .1 .0)) a
     where
-      go : (w : Bool) → placed x ≡ w → (m : Bool) → not (x .known) ≡ m → x .named ≡ true → (placed x ≡ false → Pod)
+      go : (w : Bool) → placed x ≡ w → (m : Bool) → not (x .known) ≡ m → x .named ≡ true → (placed x ≡ false → Pod x)
           → (placed x ≡ false → x .known ≡ true → x .found .port ≡ 0) → Apt s (proceeding w m) → Keeps s (proceeding w m)
       go true p true q n d t a = clash (placed-known s i f p) (not-true (x .known) q)
       go true p false q n d t a =
@@ -149,12 +117,12 @@ module _ (s : State) (i : Input) (f : Facts s) where
   unfolding see cancelAt cancelPort failed
   cancel-carrier-keeps k a =
       go (placed x) refl (atPort (x .found)) refl (eqb (cancelAt x) 0) refl (not (x .known)) refl (k .0)
-      (pod-there (k .1 .1 .0) (k .1 .1 .1 .0))
-      (found-untied (k .1 .1 .1 .0)) (idle-home (k .1 .1 .1 .1 .0)) a
+      (pod-there x (k .1 .1 .0) (k .1 .1 .1 .0))
+      (found-untied x (k .1 .1 .1 .0)) (idle-home (k .1 .1 .1 .1 .0)) a
     where
       go : (w : Bool) → placed x ≡ w → (v : Bool) → atPort (x .found) ≡ v
           → (z : Bool) → eqb (cond w (cond v (x .found .port) 0) (x .port)) 0 ≡ z
-          → (m : Bool) → not (x .known) ≡ m → x .named ≡ true → (placed x ≡ false → Pod)
+          → (m : Bool) → not (x .known) ≡ m → x .named ≡ true → (placed x ≡ false → Pod x)
           → (placed x ≡ false → x .known ≡ true → x .found .port ≡ 0)
           → (placed x ≡ true → atPort (x .found) ≡ true → idle (x .home) ≡ true)
           → Apt s (cancelling w v z m) → Keeps s (cancelling w v z m)

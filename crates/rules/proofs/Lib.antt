@@ -9,6 +9,7 @@ pub mod EveryRow
 pub mod Reachable
 pub mod Allowed
 pub mod Accepts
+pub mod UnknownPod
 pub mod Apt
 pub mod SoundParts
 pub mod SoundTests

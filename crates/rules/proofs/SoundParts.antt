@@ -157,12 +157,8 @@ fits-of P B c e a = record {
 shown-of : (q : Port) (c : Carrier) → openAgrees q c ≡ true → Shown q c
 unfolding openAgrees
 shown-of q c e o n =
-    let t = or-other (not (isOpen c) || inBuffer c) _ e (neither (isOpen c) o (ne-eqb (c .place) 2 n)) in
+    let t = or-other (not (isOpen c) || inBuffer c) _ e (rw (o, ne-eqb (c .place) 2 n)) in
     (eqb-true (c .place) 1 (and-l _ _ (and-l _ _ t)), and-r (atPort c) _ (and-l _ _ t), and-r (atPort c && idle q) _ t)
-  where
-    neither : (a : Bool) {b : Bool} → a ≡ true → b ≡ false → (not a || b) ≡ false
-    neither true p q = q
-    neither false p q = clash p refl
 
 -- ── The facts of a sound state ──
 -- no port, which stands for a port that the tool hasn't, fits

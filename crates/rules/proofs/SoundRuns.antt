@@ -8,8 +8,10 @@ use lib.ListN.{length, length-set, length-replicate}
 use lib.Dec.{eqb}
 use borrow.Author.Tests.{eqb-true, le-leb}
 use Rattle.lists.specs.Lists.{every, everyTwo, any, howMany, sameList}
+use Rattle.lists.proofs.Bools.{cond-ind}
 use Rattle.records.specs.Names.{sameName}
 use Rattle.records.specs.Ports.{newPort}
+use Rattle.rules.specs.declared.row.Effect.{Effect}
 use Rattle.rules.specs.State.{State, portOf, start}
 use Rattle.rules.specs.Sound.{portInRange, inRange, tieHeld, tiesAgree, fewExpected, portAgrees, sound}
 use Rattle.rules.specs.Seen.{Input, see}
@@ -78,22 +80,31 @@ sound-after s i h = go (eqb (answerIn s i) 0) refl
         keeps-sound s f (rowIn s i .effect) a (rows-keep s i f (i .number) j a)
     go false e = h
 
+-- what no effect changes, no input and no run does
+module _ {A : Type 0} (v : State → A) (same : (e : Effect) (s : State) → v (enact e s) ≡ v s) where
+  same-after : (s : State) (i : Input) → v (stateAfter s i) ≡ v s
+  unfolding stateAfter
+  same-after s i = cond-ind (λ t. v t ≡ v s) (eqb (answerIn s i) 0) (λ _. same (rowIn s i .effect) s) (λ _. refl)
+
+  same-reached : (s : State) (run : List Input) → v (reached s run) ≡ v s
+  unfolding reached
+  same-reached s [] = refl
+  same-reached s (i ∷ earlier) = same-after (reached s earlier) i ∙ same-reached s earlier
+
 -- the ports and the places of a tool stay as many as they are
+as-many-ports : (e : Effect) (s : State) → length (enact e s .ports) ≡ length (s .ports)
+unfolding enact
+as-many-ports e s = length-set (s .ports) _ _
+
+as-many-places : (e : Effect) (s : State) → enact e s .places ≡ s .places
+unfolding enact
+as-many-places e s = refl
+
 pub ports-after : (s : State) (i : Input) → length (stateAfter s i .ports) ≡ length (s .ports)
-unfolding stateAfter enact
-ports-after s i = go (eqb (answerIn s i) 0)
-  where
-    go : (b : Bool) → length (cond b (enact (rowIn s i .effect) s) s .ports) ≡ length (s .ports)
-    go true = length-set (s .ports) _ _
-    go false = refl
+ports-after = same-after (λ s. length (s .ports)) as-many-ports
 
 pub places-after : (s : State) (i : Input) → stateAfter s i .places ≡ s .places
-unfolding stateAfter enact
-places-after s i = go (eqb (answerIn s i) 0)
-  where
-    go : (b : Bool) → cond b (enact (rowIn s i .effect) s) s .places ≡ s .places
-    go true = refl
-    go false = refl
+places-after = same-after (λ s. s .places) as-many-places
 
 -- ── Runs ──
 pub sound-reached : (s : State) → sound s ≡ true → (run : List Input) → sound (reached s run) ≡ true
@@ -102,14 +113,10 @@ sound-reached s h [] = h
 sound-reached s h (i ∷ earlier) = sound-after (reached s earlier) i (sound-reached s h earlier)
 
 pub ports-reached : (s : State) (run : List Input) → length (reached s run .ports) ≡ length (s .ports)
-unfolding reached
-ports-reached s [] = refl
-ports-reached s (i ∷ earlier) = ports-after (reached s earlier) i ∙ ports-reached s earlier
+ports-reached = same-reached (λ s. length (s .ports)) as-many-ports
 
 pub places-reached : (s : State) (run : List Input) → reached s run .places ≡ s .places
-unfolding reached
-places-reached s [] = refl
-places-reached s (i ∷ earlier) = places-after (reached s earlier) i ∙ places-reached s earlier
+places-reached = same-reached (λ s. s .places) as-many-places
 
 -- ── Set-up ──
 pub sound-start : (P B : ℕ) → 1 ≤ P → P ≤ 4 → B ≤ 16 → sound (start P B) ≡ true

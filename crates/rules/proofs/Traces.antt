@@ -1,14 +1,13 @@
 -- What each row makes of the records: row by row, each thing that a record says after was so before, or the input did it.
 use Prim.Native.Nat.{ℕ, _<_}
 use native.Mathlib.Omega.{arith}
-use mathlib.Core.Path.{_≡_, refl, _∙_}
+use mathlib.Core.Path.{_≡_, refl, sym, _∙_}
 use mathlib.Core.Logic.{_≢_, _⊎_, inl, inr}
 use mathlib.Core.Bool.{Bool, true, false, not, cond, _&&_, _||_}
 use lib.ListN.{length, getD}
 use lib.Dec.{eqb}
 use borrow.Author.Tests.{lt-ltb}
 use Rattle.lists.proofs.Bools.{clash, and-r, and-i, or-l, or-false-l, or-false-r, not-true, not-false}
-use Rattle.lists.proofs.Tests.{where-holds}
 use Rattle.records.specs.declared.name.Name.{Name}
 use Rattle.records.specs.declared.port.Port.{Port}
 use Rattle.records.specs.declared.carrier.Carrier.{Carrier}
@@ -21,7 +20,7 @@ use Rattle.rules.specs.declared.row.Seen.{Seen}
 use Rattle.rules.specs.declared.row.Effect.{Effect}
 use Rattle.rules.specs.State.{State, recordOf}
 use Rattle.rules.specs.Sound.{sound}
-use Rattle.rules.specs.Seen.{Input, isNamed, nameStands, see}
+use Rattle.rules.specs.Seen.{Input, see}
 use Rattle.rules.specs.Row.{Row, judge, onPortAndGone, onBoth, otherPort, placed, foundOrNew}
 use Rattle.rules.specs.Verdict.{canProceed, proceedWithCarrier, cancelPort, failed, cancelCarrier}
 use Rattle.rules.specs.Buffer.{carrierOut, carrierIn, moveIn}
@@ -32,7 +31,9 @@ use Rattle.rules.specs.Outcome.{answerIn}
 use Rattle.rules.proofs.Names.{name-is, name-same, name-sym}
 use Rattle.rules.proofs.Accepts.{Accepting, walk-accepting, never}
 use Rattle.rules.proofs.SoundFacts.{distinct}
-use Rattle.rules.proofs.Apt.{no-namesake, stands-in, not-placed-new}
+use Rattle.rules.proofs.SoundParts.{facts}
+use Rattle.rules.proofs.KeepSeen.{found-named}
+use Rattle.rules.proofs.Apt.{no-namesake, stands-in, found-is, new-is, not-placed-new}
 use Rattle.rules.proofs.Matching.{read-matches}
 use Rattle.rules.proofs.Backed.{does, proves, TracesLid, Traces, Born, same-id, same-lid, same-slots}
 
@@ -99,9 +100,9 @@ module _ (s : State) (i : Input) (h : sound s ≡ true) (a : eqb (answerIn s i) 
   }
 
   -- the record found has the input's name, and no other has
-  found-named : x .known ≡ true → sameName (inBytes (i .name)) (x .found .name) ≡ true
-  unfolding see recordOf nameStands
-  found-named u = name-sym _ _ ∙ where-holds (isNamed (inBytes (i .name))) (s .carriers) noCarrier (stands-in s i h u)
+  bears-name : x .known ≡ true → sameName (inBytes (i .name)) (x .found .name) ≡ true
+  unfolding see
+  bears-name u = name-same _ _ (sym (found-named s i (facts s h) u))
 
   other-named : (j : ℕ) → j < length (s .carriers) → j ≢ x .stands
       → sameName (getD (s .carriers) j noCarrier .name) (inBytes (i .name)) ≡ false
@@ -110,26 +111,18 @@ module _ (s : State) (i : Input) (h : sound s ≡ true) (a : eqb (answerIn s i) 
     where
       go : (w : Bool) → x .known ≡ w → sameName (getD (s .carriers) j noCarrier .name) (inBytes (i .name)) ≡ false
       go true u =
-          let m = name-is (inBytes (i .name)) (x .found .name) (found-named u) in
+          let m = name-is (inBytes (i .name)) (x .found .name) (bears-name u) in
           rw m (distinct s h j (x .stands) b (stands-in s i h u) n)
       go false u = no-namesake s i h u j b
 
   -- the input is accepted, and has the found record's name
   done-to-found : x .known ≡ true → (eqb (answerIn s i) 0 && sameName (inBytes (i .name)) (x .found .name)) ≡ true
-  done-to-found u = and-i a (found-named u)
+  done-to-found u = and-i a (bears-name u)
 
   -- the same of a new record
   done-to-new : (eqb (answerIn s i) 0 && sameName (inBytes (i .name)) (x .name)) ≡ true
   unfolding see
   done-to-new = and-i a (name-same (inBytes (i .name)) (inBytes (i .name)) refl)
-
-  found-is : x .known ≡ true → foundOrNew x ≡ x .found
-  unfolding foundOrNew
-  found-is u = rw u
-
-  new-is : x .known ≡ false → foundOrNew x ≡ newCarrier (x .name) 0
-  unfolding foundOrNew
-  new-is u = rw u
 
   -- ── Row by row ──
   abbrev Fine : ℕ → Row → Type 0
@@ -143,7 +136,8 @@ module _ (s : State) (i : Input) (h : sound s ≡ true) (a : eqb (answerIn s i) 
   proceed-with-carrier-trail : Fine 5 (proceedWithCarrier x)
   unfolding canProceed
   proceed-with-carrier-trail k =
-      named-or-new 5 _ _ _ _ (λ j _ _. refl) (λ u. kept u (placed x) (k .1 .1 .1 .1 .0)) (λ u. rw (not-placed-new s i h u, new-is u) new)
+      named-or-new 5 _ _ _ _ (λ j _ _. refl) (λ u. kept u (placed x) (k .1 .1 .1 .1 .0))
+      (λ u. rw (not-placed-new s i h u, new-is s i h u) new)
     where
       id-by : x .known ≡ true → (w : Bool) → eqb (cond w 3 (x .found .id)) 3 ≡ true
           → (idOk (x .found) ≡ true) ⊎ (proves s i 5 (x .found .name) ≡ true)
@@ -172,7 +166,7 @@ module _ (s : State) (i : Input) (h : sound s ≡ true) (a : eqb (answerIn s i) 
           accessed = inl;
         };
       }
-      kept u false o = rw (found-is u) (record {
+      kept u false o = rw (found-is s i h u) (record {
         ident = record { okId = λ _. inr (done-to-found u); boxed = λ z. clash z refl };
         lid = same-lid refl refl refl;
         slots = same-slots refl refl;
@@ -192,7 +186,7 @@ module _ (s : State) (i : Input) (h : sound s ≡ true) (a : eqb (answerIn s i) 
   unfolding failed
   cancel-carrier-trail _ =
       named-or-new 6 _ _ _ _ cancels-one (λ u. kept (readyToUnload (cancelPort x)) u (placed x))
-      (λ u. rw (not-placed-new s i h u, new-is u) (new (readyToUnload (cancelPort x))))
+      (λ u. rw (not-placed-new s i h u, new-is s i h u) (new (readyToUnload (cancelPort x))))
     where
       kept : (y : Bool) → x .known ≡ true → (w : Bool)
           → Traces s i 6 (x .found) (cancelledBy y (cond w (judgedNo (x .found)) (withId 4 (placedAt (x .port) (foundOrNew x)))))
@@ -205,7 +199,7 @@ module _ (s : State) (i : Input) (h : sound s ≡ true) (a : eqb (answerIn s i) 
           accessed = inl;
         };
       }
-      kept y u false = rw (found-is u) (record {
+      kept y u false = rw (found-is s i h u) (record {
         ident = record { okId = λ z. clash z refl; boxed = λ z. clash z refl };
         lid = shut-cancelled refl refl;
         slots = same-slots refl refl;
@@ -231,7 +225,7 @@ module _ (s : State) (i : Input) (h : sound s ≡ true) (a : eqb (answerIn s i) 
 
   id-read-trail : Fine 16 (idRead x)
   id-read-trail k =
-      named-or-new 16 _ _ _ _ (λ j _ _. refl) (λ u. rw (found-is u) (kept (k .0) u)) (λ u. rw (unmatched u, new-is u) new)
+      named-or-new 16 _ _ _ _ (λ j _ _. refl) (λ u. rw (found-is s i h u) (kept (k .0) u)) (λ u. rw (unmatched u, new-is s i h u) new)
     where
       matched : (w : Bool) → eqb (cond w 3 2) 3 ≡ true → w ≡ true
       matched true z = refl
