@@ -160,31 +160,19 @@ module _ (s : State) (r : Row) where
     one-if-none-changes : length (s .carriers) ≤ e .changes → e .next ≡ noCarrier → length (inModel m f) ≤ 1
     one-if-none-changes h n = none-changed m _ _ _ _ _ (ap f (past-end (e .changes) h ∙ sym n))
 
-  two-at-most : (m : ℕ) (f : Carrier → ℕ) → length (inModel m f) ≤ 2
-  two-at-most m f = record-two m _ _ _ _ _
+  told-at-most : (p n : ℕ) → length onPort ≤ p → ((m : ℕ) (f : Carrier → ℕ) → f noCarrier ≡ 0 → length (inModel m f) ≤ n)
+      → length told ≤ p + n + n + n
+  told-at-most p n h each =
+      let l = told-length in
+      let a = each 5 (λ c. c .id) refl in
+      let b = each 6 (λ c. c .slot) refl in
+      let c = each 7 (λ c. c .accessing) refl in
+      omega arith
 
   told-seven : Small s r → length told ≤ 7
-  told-seven (noneGoes h) =
-      let l = told-length in
-      let p = port-four (e .port) (portOf s (e .port)) (e .becomes) in
-      let a = one-if-none-goes 5 (λ c. c .id) refl h in
-      let b = one-if-none-goes 6 (λ c. c .slot) refl h in
-      let c = one-if-none-goes 7 (λ c. c .accessing) refl h in
-      omega arith
-  told-seven (noneChanges h n) =
-      let l = told-length in
-      let p = port-four (e .port) (portOf s (e .port)) (e .becomes) in
-      let a = one-if-none-changes 5 (λ c. c .id) refl h n in
-      let b = one-if-none-changes 6 (λ c. c .slot) refl h n in
-      let c = one-if-none-changes 7 (λ c. c .accessing) refl h n in
-      omega arith
-  told-seven (onlyTie t u v) =
-      let l = told-length in
-      let p = port-one (e .port) (portOf s (e .port)) (e .becomes) t u v in
-      let a = two-at-most 5 (λ c. c .id) in
-      let b = two-at-most 6 (λ c. c .slot) in
-      let c = two-at-most 7 (λ c. c .accessing) in
-      omega arith
+  told-seven (noneGoes h) = told-at-most 4 1 (port-four _ _ _) (λ m f z. one-if-none-goes m f z h)
+  told-seven (noneChanges h n) = told-at-most 4 1 (port-four _ _ _) (λ m f z. one-if-none-changes m f z h n)
+  told-seven (onlyTie t u v) = told-at-most 1 2 (port-one _ _ _ t u v) (λ m f z. record-two m _ _ _ _ _)
 
 pub seven : (s : State) (i : Input) → sound s ≡ true → answerIn s i ≡ 0 → length (differences s (stateAfter s i)) ≤ 7
 unfolding stateAfter answerIn

@@ -23,30 +23,28 @@ use Rattle.rules.specs.Sound.{zeroPort, zeroCarrier, unusedZero, sound, 
 use Rattle.rules.specs.Held.{Held}
 use Rattle.rules.proofs.Names.{name-is}
 
+-- a table of n entries of which k are used
+module _ {A : Type 0} (n k : ℕ) (z : A) (l : List A) (full : l ≡ fill n z (take k l)) (few : k ≤ n) where
+  used-long : length (take k l) ≡ k
+  used-long = let e : length l ≡ n = ap length full ∙ length-fill n z (take k l) in length-take-le k l (omega arith)
+
+  used-at : (j : ℕ) → getD l j z ≡ getD (take k l) j z
+  used-at j = ap (λ m. getD m j z) full ∙ getD-fill n z (take k l) j (let e = used-long in omega arith)
+
 module _ (t : Tool) (h : Held t) where
   pub used-held : length (take (t .used) (t .ports)) ≡ t .used
-  used-held =
-      let e : length (t .ports) ≡ 4 = ap length (h .ports) ∙ length-fill 4 noPort (take (t .used) (t .ports)) in
-      let f = h .fewPorts in
-      length-take-le (t .used) (t .ports) (omega arith)
+  used-held = used-long 4 (t .used) noPort (t .ports) (h .ports) (h .fewPorts)
 
   pub count-held : length (take (t .count) (t .carriers)) ≡ t .count
-  count-held =
-      let e : length (t .carriers) ≡ 36 = ap length (h .carriers) ∙ length-fill 36 noCarrier (take (t .count) (t .carriers)) in
-      let f = h .fewCarriers in
-      length-take-le (t .count) (t .carriers) (omega arith)
+  count-held = used-long 36 (t .count) noCarrier (t .carriers) (h .carriers) (h .fewCarriers)
 
   pub port-held : (p : ℕ) → portAt t p ≡ portOf (stateOf t) p
   unfolding portAt portOf
-  port-held p =
-      ap (λ l. getD l (spotOf p) noPort) (h .ports)
-      ∙ getD-fill 4 noPort (take (t .used) (t .ports)) (spotOf p) (let e = used-held in let f = h .fewPorts in omega arith)
+  port-held p = used-at 4 (t .used) noPort (t .ports) (h .ports) (h .fewPorts) (spotOf p)
 
   pub record-held : (k : ℕ) → recordAt t k ≡ recordOf (stateOf t) k
   unfolding recordAt recordOf
-  record-held k =
-      ap (λ l. getD l k noCarrier) (h .carriers)
-      ∙ getD-fill 36 noCarrier (take (t .count) (t .carriers)) k (let e = count-held in let f = h .fewCarriers in omega arith)
+  record-held k = used-at 36 (t .count) noCarrier (t .carriers) (h .carriers) (h .fewCarriers) k
 
 -- a port and a record that pass the test for zero are zero
 port-of : (q : Port) {a b c d e f : ℕ} {n : Name} → q .transfer ≡ a → q .access ≡ b → q .reserved ≡ c → q .tie ≡ n

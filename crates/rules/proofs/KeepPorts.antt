@@ -7,7 +7,7 @@ use mathlib.Core.Bool.{Bool, true, false, not, cond, _&&_, _||_}
 use lib.ListN.{length}
 use lib.Dec.{eqb}
 use borrow.Author.Tests.{eqb-true, eqb-false, leb-true, lt-ltb}
-use Rattle.lists.proofs.Bools.{clash, and-l, and-r, or-other, not-true}
+use Rattle.lists.proofs.Bools.{and-l, and-r, or-other, not-true, not-false}
 use Rattle.records.specs.declared.port.Port.{Port}
 use Rattle.records.specs.Ports.{readyToLoad, unbound}
 use Rattle.records.specs.Fields.{withTransfer, withAccess, withReserved}
@@ -51,42 +51,28 @@ module _ (s : State) (i : Input) (f : Facts s) where
   cancel-reservation-at-port-keeps _ _ = marks-keep (f .ports (x .port) .access) (omega arith)
 
   -- the transfer state stays, or passes between OUT OF SERVICE and READY TO LOAD
+  abbrev Served : ℕ → Type 0
+  Served v = (v ≡ x .here .transfer) ⊎ ((v ≤ 1) × (x .here .transfer ≤ 1))
+
   served : (v : ℕ) → (goesOut x && not (readyToLoad (x .here))) ≡ false
-      → v ≡ cond (goesOut x) 0 (cond (comesIn x) 1 (x .here .transfer)) → (v ≡ x .here .transfer) ⊎ ((v ≤ 1) × (x .here .transfer ≤ 1))
+      → v ≡ cond (goesOut x) 0 (cond (comesIn x) 1 (x .here .transfer)) → Served v
   served v k e = go (goesOut x) refl (comesIn x) refl e
     where
-      go : (o : Bool) → goesOut x ≡ o → (c : Bool) → comesIn x ≡ c → v ≡ cond o 0 (cond c 1 (x .here .transfer))
-          → (v ≡ x .here .transfer) ⊎ ((v ≤ 1) × (x .here .transfer ≤ 1))
+      go : (o : Bool) → goesOut x ≡ o → (c : Bool) → comesIn x ≡ c → v ≡ cond o 0 (cond c 1 (x .here .transfer)) → Served v
       go true p c q z =
-          let r = eqb-true (x .here .transfer) 1 (ready (readyToLoad (x .here)) refl (rw p at k)) in
+          let r = eqb-true (x .here .transfer) 1 (not-false (readyToLoad (x .here)) (rw p at k)) in
           inr (omega arith, omega arith)
-        where
-          ready : (w : Bool) → readyToLoad (x .here) ≡ w → not (readyToLoad (x .here)) ≡ false → readyToLoad (x .here) ≡ true
-          ready true r t = r
-          ready false r t = clash (rw r) t
       go false p true q z = let r = eqb-true (x .here .transfer) 0 (and-l _ _ q) in inr (omega arith, omega arith)
       go false p false q z = inl z
 
-  served-fits : (v : ℕ) → PortFits (x .here) → (v ≡ x .here .transfer) ⊎ ((v ≤ 1) × (x .here .transfer ≤ 1))
-      → PortFits (withTransfer v (x .here))
-  served-fits v h c =
-      moved-fits _ h (range c) (h .movement) (h .pod) (λ n. moving c n (h .moving n)) (λ b. h .low (low c b)) (h .load)
-    where
-      range : (v ≡ x .here .transfer) ⊎ ((v ≤ 1) × (x .here .transfer ≤ 1)) → v ≤ 3
-      range (inl z) = let t = h .transfer in omega arith
-      range (inr z) = omega arith
+  served-fits : (v : ℕ) → PortFits (x .here) → Served v → PortFits (withTransfer v (x .here))
+  served-fits v h (inl z) = rw z h
+  served-fits v h (inr z) =
+      moved-fits _ h (omega arith) (h .movement) (h .pod) (λ n. let t = h .moving n in absurd (omega arith)) (λ _. h .low (z .1)) (h .load)
 
-      moving : (v ≡ x .here .transfer) ⊎ ((v ≤ 1) × (x .here .transfer ≤ 1)) → x .here .movement ≢ 0 → x .here .transfer ≡ 3 → v ≡ 3
-      moving (inl z) n t = omega arith
-      moving (inr z) n t = absurd (omega arith)
-
-      low : (v ≡ x .here .transfer) ⊎ ((v ≤ 1) × (x .here .transfer ≤ 1)) → v ≤ 1 → x .here .transfer ≤ 1
-      low (inl z) b = omega arith
-      low (inr z) b = z .1
-
-  served-calm : (v : ℕ) → (v ≡ x .here .transfer) ⊎ ((v ≤ 1) × (x .here .transfer ≤ 1)) → Calm (x .here) (withTransfer v (x .here))
+  served-calm : (v : ℕ) → Served v → Calm (x .here) (withTransfer v (x .here))
   served-calm v (inl z) = record { tie = refl; quiet = λ a b. (a, ap (λ t. eqb t 3) z ∙ b) }
-  served-calm v (inr z) = record { tie = refl; quiet = λ a b. let t = eqb-true (x .here .transfer) 3 b in absurd (omega arith) }
+  served-calm v (inr z) = unblocked-calm refl (λ t. omega arith)
 
   pub change-service-status-keeps : Good s (changeServiceStatus x)
   unfolding see

@@ -4,18 +4,21 @@ use native.Mathlib.Omega.{arith}
 use mathlib.Core.Path.{_≡_, refl}
 use mathlib.Core.Logic.{_≢_}
 use mathlib.Core.Bool.{Bool, true, false, cond, _&&_}
+use mathlib.Core.List.{List}
 use lib.Dec.{eqb}
 use borrow.Author.Tests.{eqb-true, ne-eqb}
+use Rattle.lists.specs.Lists.{every}
 use Rattle.lists.proofs.Bools.{clash, and-l, and-r, or-other}
 use Rattle.records.specs.declared.port.Port.{Port}
 use Rattle.records.specs.declared.carrier.Carrier.{Carrier}
+use Rattle.records.specs.Maps.{isCode}
 use Rattle.records.specs.Ports.{noPort, idle, blocked, toBlocked, toUnload}
-use Rattle.records.specs.Carriers.{atPort, inBuffer, isOpen, withMap, takenBack}
-use Rattle.records.specs.Fields.{withOpened, withAccessing}
+use Rattle.records.specs.Carriers.{atPort, inBuffer, isOpen, takenBack}
+use Rattle.records.specs.Fields.{withOpened, withCodes, withId, withSlot, withAccessing}
 use Rattle.rules.specs.declared.row.Seen.{Seen}
 use Rattle.rules.specs.State.{State}
 use Rattle.rules.specs.Seen.{Input, see}
-use Rattle.rules.specs.Row.{onBoth}
+use Rattle.rules.specs.Row.{onRecord, onBoth}
 use Rattle.rules.specs.Buffer.{canGoBack, carrierIn}
 use Rattle.rules.specs.Opening.{canOpen, openRow, slotMap, accessStart, accessEnd, leavesPort, closeRow}
 use Rattle.rules.proofs.Apt.{Apt}
@@ -28,9 +31,6 @@ use Rattle.rules.proofs.KeepSeen.{found-live, found-fits, home-fits, ma
 -- the changes of a record that leave it where it stands
 opened-fits : (P B v : ℕ) (c : Carrier) → v ≤ 1 → Fits P B c → Fits P B (withOpened v c)
 opened-fits P B v c b h = flags-fit h b (h .cancelled) (h .cameout)
-
-accessing-fits : (P B v : ℕ) (c : Carrier) → (1 ≤ v) × (v ≤ 4) → Fits P B c → Fits P B (withAccessing v c)
-accessing-fits P B v c b h = states-fit h (h .map) (h .id) (h .slot) b
 
 -- READY TO UNLOAD, where nothing moves
 pub unload-fits : (q : Port) → idle q ≡ true → PortFits q → PortFits (toUnload q)
@@ -58,30 +58,31 @@ module _ (s : State) (i : Input) (f : Facts s) where
           or-other (inBuffer (x .found)) _ (search (and-l, and-r) depth 3) (ne-eqb (x .found .place) 2 n) in
           (eqb-true _ 1 (search (and-l, and-r) depth 5), search (and-l, and-r) depth 5, search (and-l, and-r) depth 5)
 
-  pub slot-map-keeps : Good s (slotMap x)
+  -- the statuses and the map of the record named change, and nothing else
+  pub statuses-keep : {m : List ℕ} {v t a : ℕ} → x .known ≡ true
+      → every isCode m ≡ true → (1 ≤ v) × (v ≤ 4) → (1 ≤ t) × (t ≤ 4) → (1 ≤ a) × (a ≤ 4)
+      → Apt s (onRecord (x .count) (x .stands) (withCodes m (withId v (withSlot t (withAccessing a (x .found))))))
+      → Keeps s (onRecord (x .count) (x .stands) (withCodes m (withId v (withSlot t (withAccessing a (x .found))))))
   unfolding see
+  statuses-keep u m v t a p =
+      let b = found-live s i f u in
+      record-keeps s f (x .stands) _ p b (states-fit (found-fits s i f u) m v t a)
+      (record { name = refl; place = refl; spot = refl; port = refl }) (f .shown (x .stands) b)
+
+  pub slot-map-keeps : Good s (slotMap x)
   slot-map-keeps k a =
       let h = found-fits s i f (k .1 .1 .0) in
-      let b = found-live s i f (k .1 .1 .0) in
-      record-keeps s f (x .stands) (withMap (x .map) 2 (x .found)) a b
-      (states-fit h (map-fits s i f (k .1 .0)) (h .id) (omega arith, omega arith) (h .accessing))
-      (record { name = refl; place = refl; spot = refl; port = refl }) (f .shown (x .stands) b)
+      statuses-keep (k .1 .1 .0) (map-fits s i f (k .1 .0)) (h .id) (omega arith, omega arith) (h .accessing) a
 
   pub access-start-keeps : Good s (accessStart x)
-  unfolding see
   access-start-keeps k a =
-      let b = found-live s i f (k .1 .0) in
-      record-keeps s f (x .stands) (withAccessing 2 (x .found)) a b
-      (accessing-fits _ _ 2 _ (omega arith, omega arith) (found-fits s i f (k .1 .0)))
-      (record { name = refl; place = refl; spot = refl; port = refl }) (f .shown (x .stands) b)
+      let h = found-fits s i f (k .1 .0) in
+      statuses-keep (k .1 .0) (h .map) (h .id) (h .slot) (omega arith, omega arith) a
 
   pub access-end-keeps : Good s (accessEnd x)
-  unfolding see
   access-end-keeps k a =
-      let b = found-live s i f (k .1 .1 .0) in
-      record-keeps s f (x .stands) (withAccessing (cond (eqb (x .value) 0) 3 4) (x .found)) a b
-      (accessing-fits _ _ _ _ (ended (eqb (x .value) 0)) (found-fits s i f (k .1 .1 .0)))
-      (record { name = refl; place = refl; spot = refl; port = refl }) (f .shown (x .stands) b)
+      let h = found-fits s i f (k .1 .1 .0) in
+      statuses-keep (k .1 .1 .0) (h .map) (h .id) (h .slot) (ended (eqb (x .value) 0)) a
     where
       ended : (w : Bool) → (1 ≤ cond w 3 4) × (cond w 3 4 ≤ 4)
       ended true = (omega arith, omega arith)

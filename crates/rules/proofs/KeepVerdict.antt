@@ -27,7 +27,7 @@ use Rattle.rules.proofs.KeepShapes.{Good, record-keeps, both-keeps}
 use Rattle.rules.proofs.KeepSeen.{given-range, here-fits, home-fits, name-fits, found-live, found-fits}
 use Rattle.rules.proofs.KeepSeen.{nobody-tied, either-fits, either-named, either-shut, placed-known}
 use Rattle.rules.proofs.KeepFits.{marked-fits, flags-fit, states-fit}
-use Rattle.rules.proofs.KeepRecords.{unload-fits, shut}
+use Rattle.rules.proofs.KeepRecords.{unload-fits, statuses-keep, shut}
 use Rattle.rules.proofs.KeepArrivals.{placed-fits, coming-keeps}
 
 tied-fits : (q : Port) {n : Name} → holdsName n ≡ true → PortFits q → PortFits (tiedTo n q)
@@ -37,11 +37,6 @@ tied-fits q {n} g h = marked-fits q h (h .access) (h .reserved) (or-r (sameName 
 set-or-kept : (w : Bool) (v u : ℕ) → (1 ≤ v) × (v ≤ 4) → (1 ≤ u) × (u ≤ 4) → (1 ≤ cond w v u) × (cond w v u ≤ 4)
 set-or-kept true v u a b = a
 set-or-kept false v u a b = b
-
-proceeded-fits : (P B : ℕ) (c : Carrier) → Fits P B c → Fits P B (proceeded c)
-proceeded-fits P B c h =
-    states-fit h (h .map) (set-or-kept (idWaits c) 3 (c .id) (omega arith, omega arith) (h .id))
-    (set-or-kept (idWaits c) (c .slot) 3 (h .slot) (omega arith, omega arith)) (h .accessing)
 
 judged-fits : (P B : ℕ) (c : Carrier) → Fits P B c → Fits P B (judgedNo c)
 judged-fits P B c h =
@@ -80,9 +75,10 @@ module _ (s : State) (i : Input) (f : Facts s) where
       go true p true q n d t a = clash (placed-known s i f p) (not-true (x .known) q)
       go true p false q n d t a =
           let u = placed-known s i f p in
-          let b = found-live s i f u in
-          record-keeps s f (x .stands) (proceeded (x .found)) a b (proceeded-fits _ _ _ (found-fits s i f u))
-          (record { name = refl; place = refl; spot = refl; port = refl }) (f .shown (x .stands) b)
+          let h = found-fits s i f u in
+          let w = idWaits (x .found) in
+          statuses-keep s i f u (h .map) (set-or-kept w 3 _ (omega arith, omega arith) (h .id))
+          (set-or-kept w _ 3 (h .slot) (omega arith, omega arith)) (h .accessing) a
       go false p m q n d t a =
           let o = d p in
           let r = given-range s i f (o .port) in
