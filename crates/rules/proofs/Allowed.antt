@@ -13,13 +13,12 @@ use Rattle.rules.specs.Rows.{rowOf}
 use Rattle.rules.specs.Outcome.{answerIn}
 use Rattle.rules.specs.Reachable.{mayAnswer}
 use Rattle.rules.proofs.Walk.{walk}
-use Rattle.rules.proofs.Lowest.{row-first-is-lowest}
+use Rattle.rules.proofs.Lowest.{numberOf, row-first-is-lowest}
 
 -- the numbers that a row's grounds give
 abbrev numbersOf : List Ground → List ℕ
 numbersOf [] = []
-numbersOf (when b n ∷ gs) = n ∷ numbersOf gs
-numbersOf (unless b n ∷ gs) = n ∷ numbersOf gs
+numbersOf (g ∷ gs) = numberOf g ∷ numbersOf gs
 
 -- what is answered is 0 or one of them
 among : (f : ℕ → Bool) (gs : List Ground) → f 0 ≡ true → every f (numbersOf gs) ≡ true → f (judge gs) ≡ true

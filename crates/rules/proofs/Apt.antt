@@ -127,6 +127,7 @@ module _ (s : State) (i : Input) (h : sound s ≡ true) where
     none = λ e b. clash (not-false (x .known) e) (le-ltb (x .stands) (length (s .carriers)) b);
   }
 
+  -- the name's record, or a new one
   pub found-is : x .known ≡ true → foundOrNew x ≡ x .found
   unfolding foundOrNew
   found-is e = rw e
@@ -171,6 +172,7 @@ module _ (s : State) (i : Input) (h : sound s ≡ true) where
   stands-not-count u z = let b = stands-in u in omega arith
 
   -- ── Row by row ──
+  -- what there is to show of a row that accepts
   abbrev Fine : Row → Type 0
   Fine r = Clear (r .grounds) → Apt s (r .effect)
 

@@ -20,9 +20,8 @@ use Rattle.records.specs.Ports.{noPort, idle, blocked}
 use Rattle.records.specs.Carriers.{noCarrier, expected}
 use Rattle.rules.specs.declared.row.Effect.{Effect}
 use Rattle.rules.specs.State.{State, spotOf, portOf, recordOf}
-use Rattle.rules.specs.Sound.{portInRange, carrierInRange, inRange, otherName}
-use Rattle.rules.specs.Sound.{tieKept, portTieHeld, tiesAgree, placeAgrees, otherSpot, fewExpected}
-use Rattle.rules.specs.Sound.{portAgrees, openAgrees, sound}
+use Rattle.rules.specs.Sound.{portInRange, carrierInRange, inRange, otherName, tieKept, portTieHeld, tiesAgree}
+use Rattle.rules.specs.Sound.{placeAgrees, otherSpot, fewExpected, portAgrees, openAgrees, sound}
 use Rattle.rules.specs.Row.{enact}
 use Rattle.rules.proofs.Apt.{Apt}
 use Rattle.rules.proofs.SoundParts.{PortFits, Fits, Shown, Facts}

@@ -125,6 +125,7 @@ module _ (s : State) (i : Input) (h : sound s ≡ true) (a : eqb (answerIn s i) 
   done-to-new = and-i a (name-same (inBytes (i .name)) (inBytes (i .name)) refl)
 
   -- ── Row by row ──
+  -- what there is to show of a row that accepts, by its number
   abbrev Fine : ℕ → Row → Type 0
   Fine = Accepting (Trail s i)
 
