@@ -28,7 +28,7 @@ use Rattle.rules.proofs.KeepShapes.{Good, record-keeps, both-keeps}
 use Rattle.rules.proofs.KeepFits.{moved-fits, flags-fit, states-fit}
 use Rattle.rules.proofs.KeepSeen.{found-live, found-fits, home-fits, map-fits}
 
--- the changes of a record that leave it where it stands
+-- a record that is opened or closed
 opened-fits : (P B v : ℕ) (c : Carrier) → v ≤ 1 → Fits P B c → Fits P B (withOpened v c)
 opened-fits P B v c b h = flags-fit h b (h .cancelled) (h .cameout)
 
