@@ -16,7 +16,7 @@ use Rattle.rules.specs.Verdict.{takesUnknownPod, canProceed, canCancel, 
 use Rattle.rules.specs.Reading.{elsewhere, matching, displaced}
 use Rattle.rules.specs.Rows.{rowOf}
 use Rattle.rules.specs.Outcome.{answerIn, stateAfter}
-use Rattle.rules.specs.History.{reached, isLive, history, done, announcedThere, verifies, verified, wasCancelled}
+use Rattle.rules.specs.History.{reached, events, isLive, history, done, announcedThere, verifies, verified, wasCancelled}
 
 abbrev AB : List ℕ
 AB = 0x41 ∷ 0x42 ∷ []
@@ -49,20 +49,20 @@ abbrev pub its : List Input → Carrier
 its run = recordOf (after run) (nameStands (after run) ab)
 
 pub record StartsAfresh : Type 0 where
-  pub verifiedFirst : verified ab (history (start 1 0) came ab) ≡ true
-  pub cancelledFirst : wasCancelled ab (history (start 1 0) came ab) ≡ true
+  pub verifiedFirst : verified ab (history ab (events (start 1 0) came)) ≡ true
+  pub cancelledFirst : wasCancelled ab (history ab (events (start 1 0) came)) ≡ true
   pub gone : isLive (after left) ab ≡ false
   pub back : isLive (after returned) ab ≡ true
   pub atPortAgain : atPort (its returned) ≡ true
   pub idWaitsAgain : idWaits (its returned) ≡ true
-  pub notVerified : verified ab (history (start 1 0) returned ab) ≡ false
-  pub notCancelled : wasCancelled ab (history (start 1 0) returned ab) ≡ false
+  pub notVerified : verified ab (history ab (events (start 1 0) returned)) ≡ false
+  pub notCancelled : wasCancelled ab (history ab (events (start 1 0) returned)) ≡ false
 
 pub afresh : StartsAfresh
 unfolding every any howMany whereIs without fill sameList isName inBytes sameName isMap inMap
     portOf recordOf narrow nameStands tieStands howManyExpected spotTaken someOpen see lower lowest enact placed unknownPod foundOrNew
     takesUnknownPod canProceed canCancel cancelAt cancelPort failed elsewhere matching displaced
-    rowOf answerIn stateAfter reached isLive history done announcedThere verifies verified wasCancelled
+    rowOf answerIn stateAfter reached events isLive history done announcedThere verifies verified wasCancelled
 afresh = record {
   verifiedFirst = refl;
   cancelledFirst = refl;

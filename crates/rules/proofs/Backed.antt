@@ -31,7 +31,7 @@ abbrev pub does : State → Input → ℕ → ℕ → Name → Bool
 does s i n k m = eqb n k && eqb (answerIn s i) 0 && sameName (inBytes (i .name)) m
 
 abbrev pub proves : State → Input → ℕ → Name → Bool
-proves s i n m = (does s i n 16 m && announcedThere m (record { before = s; input = i })) || does s i n 5 m
+proves s i n m = (does s i n 16 m && announcedThere m (record { before = s; input = i; answer = answerIn s i })) || does s i n 5 m
 
 -- What an input makes of a record: each thing that the record says after was so before, or the input did it.
 -- Its ID and its place:
@@ -79,7 +79,7 @@ untouched s i n c d = record { ident = same-id refl refl; lid = same-lid d refl 
 
 module _ (s : State) (i : Input) where
   abbrev event : Event
-  event = record { before = s; input = i }
+  event = record { before = s; input = i; answer = answerIn s i }
 
   -- a name's history with one event more
   module _ (h : List Event) (m : Name) where

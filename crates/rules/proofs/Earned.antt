@@ -21,7 +21,7 @@ use Rattle.rules.specs.Sound.{sound}
 use Rattle.rules.specs.Seen.{Input, isNamed, see}
 use Rattle.rules.specs.Row.{judge, enact}
 use Rattle.rules.specs.Outcome.{rowIn, answerIn, stateAfter}
-use Rattle.rules.specs.History.{reached, isLive, history}
+use Rattle.rules.specs.History.{Event, reached, events, isLive, history}
 use Rattle.rules.specs.Promise.{Live, Earned}
 use Rattle.rules.proofs.Names.{name-same}
 use Rattle.rules.proofs.Lowest.{row-first-is-lowest}
@@ -42,7 +42,7 @@ refused-does false c e = refl
 module _ (s₀ : State) (none : s₀ .carriers ≡ []) (sound-reached : (run : List Input) → sound (reached s₀ run) ≡ true) where
   -- a record is backed by its history
   abbrev Told : List Input → Carrier → Type 0
-  Told run c = Backed (history s₀ run (c .name)) c
+  Told run c = Backed (history (c .name) (events s₀ run)) c
 
   module _ (earlier : List Input) (i : Input) where
     abbrev s : State
@@ -51,18 +51,22 @@ module _ (s₀ : State) (none : s₀ .carriers ≡ []) (sound-reached : (run : L
     abbrev e : Effect
     e = rowIn s i .effect
 
-    longer : (m n : Name) → m ≡ n → isLive s n ≡ true → history s₀ (i ∷ earlier) m ≡ record { before = s; input = i } ∷ history s₀ earlier n
-    unfolding history
+    abbrev event : Event
+    event = record { before = s; input = i; answer = answerIn s i }
+
+    longer : (m n : Name) → m ≡ n → isLive s n ≡ true
+        → history m (events s₀ (i ∷ earlier)) ≡ event ∷ history n (events s₀ earlier)
+    unfolding events history
     longer m n q l = rw (q, l)
 
     told-old : (c after : Carrier) → isLive s (c .name) ≡ true → after .name ≡ c .name → Told earlier c → Traces s i (i .number) c after
         → Told (i ∷ earlier) after
     told-old c after l q b t =
         subst (λ h. Backed h after) (sym (longer (after .name) (c .name) q l))
-        (backed-after s i (history s₀ earlier (c .name)) c after q b t)
+        (backed-after s i (history (c .name) (events s₀ earlier)) c after q b t)
 
     told-new : (c : Carrier) → isLive s (c .name) ≡ false → Born s i (i .number) c → Told (i ∷ earlier) c
-    unfolding history
+    unfolding events history
     told-new c l b = rw l (backed-new s i c b)
 
     live-at : (j : ℕ) → j < length (s .carriers) → isLive s (getD (s .carriers) j noCarrier .name) ≡ true
@@ -107,7 +111,7 @@ module _ (s₀ : State) (none : s₀ .carriers ≡ []) (sound-reached : (run : L
 -- What the promise asks.
 pub earned : (P B : ℕ) → ((run : List Input) → sound (reached (start P B) run) ≡ true) → (run : List Input) (k : ℕ)
     → Live (reached (start P B) run) k
-    → Earned (history (start P B) run (recordOf (reached (start P B) run) k .name)) (recordOf (reached (start P B) run) k)
+    → Earned (history (recordOf (reached (start P B) run) k .name) (events (start P B) run)) (recordOf (reached (start P B) run) k)
 unfolding recordOf
 earned P B sound-reached run k l =
     let b = each-told (start P B) refl sound-reached run k l in

@@ -15,6 +15,7 @@ use Rattle.rules.specs.State.{State, portOf, recordOf}
 use Rattle.rules.specs.Sound.{sound}
 use Rattle.rules.specs.Seen.{Input, narrow, isNamed, see}
 use Rattle.rules.specs.Reading.{matching}
+use Rattle.rules.specs.Outcome.{answerIn}
 use Rattle.rules.specs.History.{Event, isLive, announcedThere}
 use Rattle.rules.proofs.Names.{name-same}
 use Rattle.rules.proofs.SoundParts.{Facts, facts}
@@ -25,7 +26,7 @@ module _ (s : State) (i : Input) (h : sound s ≡ true) where
   x = see s i
 
   abbrev read : Event
-  read = record { before = s; input = i }
+  read = record { before = s; input = i; answer = answerIn s i }
 
   f : Facts s
   f = facts s h

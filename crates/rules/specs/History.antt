@@ -21,24 +21,30 @@ unfoldable pub reachedTool : Tool → List Input → Tool
 reachedTool t [] = t
 reachedTool t (i ∷ earlier) = outcome (reachedTool t earlier) i .tool
 
--- An input, and the state that it met.
+-- An input, the state that it met, and the answer that it got.
 pub record Event : Type 0 where
   pub before : State
   pub input : Input
+  pub answer : ℕ
+
+-- what happened in a run
+unfoldable pub events : State → List Input → List Event
+events s [] = []
+events s (i ∷ earlier) =
+    record { before = reached s earlier; input = i; answer = answerIn (reached s earlier) i } ∷ events s earlier
 
 -- the name has a record
 unfoldable pub isLive : State → Name → Bool
 isLive s n = any (isNamed n) (s .carriers)
 
 -- The history of a name, the latest first: what came since its record was made, and the input that made it.
-unfoldable pub history : State → List Input → Name → List Event
-history s [] n = []
-history s (i ∷ earlier) n =
-    record { before = reached s earlier; input = i } ∷ cond (isLive (reached s earlier) n) (history s earlier n) []
+unfoldable pub history : Name → List Event → List Event
+history n [] = []
+history n (e ∷ earlier) = e ∷ cond (isLive (e .before) n) (history n earlier) []
 
 -- an input of this number, with this name, that was accepted
 unfoldable pub done : ℕ → Name → Event → Bool
-done k n e = eqb (e .input .number) k && eqb (answerIn (e .before) (e .input)) 0 && sameName (inBytes (e .input .name)) n
+done k n e = eqb (e .input .number) k && eqb (e .answer) 0 && sameName (inBytes (e .input .name)) n
 
 -- the tie of the port that an input names, before it
 abbrev pub tieRead : Event → Name

@@ -10,7 +10,7 @@ use Rattle.records.specs.Names.{noName}
 use Rattle.records.specs.Carriers.{atPort, inBuffer, isOpen, inAccess}
 use Rattle.rules.specs.State.{State, start, portOf, recordOf}
 use Rattle.rules.specs.Seen.{Input}
-use Rattle.rules.specs.History.{Event, reached, history, verified, wasCancelled, released}
+use Rattle.rules.specs.History.{Event, reached, events, history, verified, wasCancelled, released}
 
 -- position k is a live carrier's
 abbrev pub Live : State → ℕ → Type 0
@@ -46,4 +46,4 @@ pub record Promise (P B : ℕ) (run : List Input) : Type 0 where
   pub orderly : Orderly (reached (start P B) run)
   pub few : length (reached (start P B) run .carriers) ≤ P + B + 16
   pub earned : (k : ℕ) → Live (reached (start P B) run) k
-      → Earned (history (start P B) run (recordOf (reached (start P B) run) k .name)) (recordOf (reached (start P B) run) k)
+      → Earned (history (recordOf (reached (start P B) run) k .name) (events (start P B) run)) (recordOf (reached (start P B) run) k)
