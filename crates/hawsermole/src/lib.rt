@@ -2,11 +2,10 @@
 // include/hawsermole.h names them.
 ghost use mathlib.Core.Path.{_≡_};
 ghost use mathlib.Core.Bool.{cond};
-ghost use Rattle.rules.specs.State.{setUp};
 ghost use Rattle.rules.specs.Sound.{soundTool};
 ghost use Rattle.rules.specs.Seen.{inputOf};
-ghost use Rattle.rules.specs.Outcome.{outcome};
-ghost use Rattle.image.specs.Image.{toolFrom, reportsFrom};
+ghost use Rattle.image.specs.Image.{toolFrom};
+ghost use Rattle.hawsermole.specs.Calls.{SetUpCall, StepCall};
 use machine::setup::setup;
 use machine::step::step;
 use soundness::whole::sound;
@@ -27,8 +26,7 @@ pub extern "C" fn hm_reports_size() -> u32
 
 #[no_mangle]
 pub extern "C" fn hm_setup(tool: &mut [u8; 1891], ports: u32, places: u32) -> u32
-    ensures { λ r. ⌜ toolFrom (now (tool .exit)) ≡ setUp ports places .tool ⌝ }
-    ensures { λ r. ⌜ r ≡ setUp ports places .answer ⌝ }
+    ensures { λ r. ⌜ SetUpCall ports places r (now (tool .exit)) ⌝ }
 {
     let answer = setup(tool, ports, places);
     answer as u32
@@ -51,12 +49,8 @@ pub extern "C" fn hm_step(
     name: &[u8],
     codes: &[u8],
 ) -> u32
-    ensures { λ r. ⌜ toolFrom (now (tool .exit)) ≡ outcome (toolFrom (now (tool .entry)))
-        (inputOf number port value (now (name .entry)) (now (codes .entry))) .tool ⌝ }
-    ensures { λ r. ⌜ reportsFrom (now (reports .exit)) ≡ outcome (toolFrom (now (tool .entry)))
-        (inputOf number port value (now (name .entry)) (now (codes .entry))) .reports ⌝ }
-    ensures { λ r. ⌜ r ≡ outcome (toolFrom (now (tool .entry)))
-        (inputOf number port value (now (name .entry)) (now (codes .entry))) .answer ⌝ }
+    ensures { λ r. ⌜ StepCall (now (tool .entry)) (inputOf number port value (now (name .entry)) (now (codes .entry)))
+        r (now (tool .exit)) (now (reports .exit)) ⌝ }
 {
     let answer = step(tool, reports, number, port, value, name, codes);
     answer as u32

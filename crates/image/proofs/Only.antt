@@ -1,4 +1,4 @@
--- The bytes say just what the tool says: two images that hold one tool are one image, and so for reports.
+-- The bytes say just what the tool says: two images that hold one tool are the same in every byte, and so for reports.
 use Prim.Native.Nat.{ℕ, zero, suc, _+_, _*_, _-_, _<_, _≤_}
 use native.Mathlib.Omega.{arith}
 use mathlib.Core.Path.{_≡_, refl, ap, sym, _∙_}
@@ -72,7 +72,7 @@ module _ (a b : List ℕ) where
   same-bytes from bytes w o spelt p f d =
       sym (getD-table w (at a o) f 0 d) ∙ ap (λ l. getD l f 0) (spelt a ∙ ap bytes p ∙ sym (spelt b)) ∙ getD-table w (at b o) f 0 d
 
-  module _ (full : length a ≡ 1891) (whole : length b ≡ 1891) (e : toolFrom a ≡ toolFrom b) where
+  module _ (e : toolFrom a ≡ toolFrom b) where
     port-byte : (k f : ℕ) → k < 4 → f < 22 → byteAt a (portStart k + f) ≡ byteAt b (portStart k + f)
     port-byte k f c =
         same-bytes portFrom portBytes 22 (portStart k) (λ m. port-spelt m (portStart k))
@@ -83,7 +83,7 @@ module _ (a b : List ℕ) where
         same-bytes carrierFrom carrierBytes 50 (carrierStart k) (λ m. carrier-spelt m (carrierStart k))
         (sym (record-is a k noCarrier c) ∙ ap (λ t. getD (t .carriers) k noCarrier) e ∙ record-is b k noCarrier c) f
 
-    each-byte : (i : ℕ) → i < 1891 → byteAt a i ≡ byteAt b i
+    pub each-byte : (i : ℕ) → i < 1891 → byteAt a i ≡ byteAt b i
     each-byte zero h = sym (used-is a) ∙ ap (λ t. t .used) e ∙ used-is b
     each-byte (suc zero) h = sym (places-is a) ∙ ap (λ t. t .places) e ∙ places-is b
     each-byte (suc (suc zero)) h = sym (count-is a) ∙ ap (λ t. t .count) e ∙ count-is b
@@ -102,20 +102,20 @@ module _ (a b : List ℕ) where
             in-entry 50 refl (λ n. omega arith) (byteAt a i ≡ byteAt b i) 36 91 i (omega arith) (omega arith)
             (λ k f p q z. rw z (record-byte k f p q))
 
-    pub one-image : a ≡ b
-    one-image = ext-getD 0 a b (full ∙ sym whole) (λ i h. each-byte i (omega arith))
+    pub one-image : length a ≡ 1891 → length b ≡ 1891 → a ≡ b
+    one-image full whole = ext-getD 0 a b (full ∙ sym whole) (λ i h. each-byte i (omega arith))
 
-  module _ (full : length a ≡ 141) (whole : length b ≡ 141) (e : reportsFrom a ≡ reportsFrom b) where
+  module _ (e : reportsFrom a ≡ reportsFrom b) where
     report-byte : (k f : ℕ) → k < 7 → f < 20 → byteAt a (reportStart k + f) ≡ byteAt b (reportStart k + f)
     report-byte k f c =
         same-bytes reportFrom reportBytes 20 (reportStart k) (λ m. report-spelt m (reportStart k))
         (sym (item-is a k noReport c) ∙ ap (λ t. getD (t .items) k noReport) e ∙ item-is b k noReport c) f
 
-    reported-byte : (i : ℕ) → i < 141 → byteAt a i ≡ byteAt b i
+    pub reported-byte : (i : ℕ) → i < 141 → byteAt a i ≡ byteAt b i
     reported-byte zero h = sym (reported-is a) ∙ ap (λ t. t .count) e ∙ reported-is b
     reported-byte (suc j) h =
         in-entry 20 refl (λ n. omega arith) (byteAt a (suc j) ≡ byteAt b (suc j)) 7 1 (suc j) (omega arith) (omega arith)
         (λ k f p q z. rw z (report-byte k f p q))
 
-    pub one-list : a ≡ b
-    one-list = ext-getD 0 a b (full ∙ sym whole) (λ i h. reported-byte i (omega arith))
+    pub one-list : length a ≡ 141 → length b ≡ 141 → a ≡ b
+    one-list full whole = ext-getD 0 a b (full ∙ sym whole) (λ i h. reported-byte i (omega arith))

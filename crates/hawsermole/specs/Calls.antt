@@ -1,0 +1,58 @@
+-- What a caller of the library sees: bytes, inputs, answers and reports, and what is promised of a run of calls.
+use Prim.Native.Nat.{ℕ, _+_, _≤_, _<_}
+use mathlib.Core.Path.{_≡_}
+use mathlib.Core.Bool.{true}
+use mathlib.Core.List.{List, [], _∷_, map}
+use lib.ListN.{length}
+use Rattle.rules.specs.State.{State, stateOf, recordOf, setUp}
+use Rattle.rules.specs.Sound.{soundTool}
+use Rattle.rules.specs.Seen.{Input}
+use Rattle.rules.specs.Outcome.{outcome}
+use Rattle.rules.specs.History.{Event, history}
+use Rattle.rules.specs.Promise.{Live, Orderly, Earned}
+use Rattle.image.specs.Image.{byteAt, toolFrom, reportsFrom}
+
+-- What hm_setup ensures: the bytes that it leaves hold the tool that set-up gives, and it gives set-up's answer.
+pub record SetUpCall (ports places answer : ℕ) (after : List ℕ) : Type 0 where
+  pub tool : toolFrom after ≡ setUp ports places .tool
+  pub answered : answer ≡ setUp ports places .answer
+
+-- What hm_step ensures: the tool that it leaves, its reports and its answer are those of the input's outcome.
+pub record StepCall (before : List ℕ) (input : Input) (answer : ℕ) (after reports : List ℕ) : Type 0 where
+  pub tool : toolFrom after ≡ outcome (toolFrom before) input .tool
+  pub told : reportsFrom reports ≡ outcome (toolFrom before) input .reports
+  pub answered : answer ≡ outcome (toolFrom before) input .answer
+
+-- A call of hm_step: the bytes that it met, the input, the answer that it gave, and the report list that it left.
+pub record Call : Type 0 where
+  pub before : List ℕ
+  pub input : Input
+  pub answer : ℕ
+  pub reports : List ℕ
+
+-- A run of calls, the latest first, and the bytes that it left: hm_setup answered 0 for P ports and B places,
+-- and each call of hm_step met the bytes that the call before it left.
+unfoldable pub Left : ℕ → ℕ → List Call → List ℕ → Type 0
+Left P B [] bytes = SetUpCall P B 0 bytes
+Left P B (c ∷ earlier) bytes = Left P B earlier (c .before) × StepCall (c .before) (c .input) (c .answer) bytes (c .reports)
+
+-- the state that bytes hold
+abbrev pub stateIn : List ℕ → State
+stateIn bytes = stateOf (toolFrom bytes)
+
+-- What happened in a call: the answer is the one that the call gave.
+abbrev pub eventOf : Call → Event
+eventOf c = record { before = stateIn (c .before); input = c .input; answer = c .answer }
+
+-- The promise, of a run of calls and the bytes that it left: they hold a sound tool, its names, ties and places are in order,
+-- and each of its carriers has behind it what the calls' own answers show.
+pub record Kept (P B : ℕ) (calls : List Call) (bytes : List ℕ) : Type 0 where
+  pub sound : soundTool (toolFrom bytes) ≡ true
+  pub orderly : Orderly (stateIn bytes)
+  pub few : length (stateIn bytes .carriers) ≤ P + B + 16
+  pub earned : (k : ℕ) → Live (stateIn bytes) k
+      → Earned (history (recordOf (stateIn bytes) k .name) (map eventOf calls)) (recordOf (stateIn bytes) k)
+
+-- the first n bytes are the same
+abbrev pub SameBytes : ℕ → List ℕ → List ℕ → Type 0
+SameBytes n a b = (k : ℕ) → k < n → byteAt a k ≡ byteAt b k
