@@ -65,13 +65,19 @@ module _ (P B : ℕ) where
     state-is : stateIn bytes ≡ reached (start P B) (inputs calls)
     state-is = ap stateOf (tool-is calls bytes l) ∙ tool-holds P B (set-up calls bytes l) (inputs calls)
 
-  -- what happened, by the answers that the calls gave, is what happens by the definitions
+  -- the answer that counts for a call is the definitions'
+  answer-given : (c : Call) (earlier : List Call) (bytes : List ℕ) → Left P B (c ∷ earlier) bytes
+      → eventOf c .answer ≡ answerIn (stateIn (c .before)) (c .input)
+  unfolding Left
+  answer-given c earlier bytes l =
+      l .1 .answered ∙ answer-is (toolFrom (c .before)) (c .input) (sound-is earlier (c .before) (l .0))
+
+  -- what happened in the calls is what happens by the definitions
   events-are : (calls : List Call) (bytes : List ℕ) → Left P B calls bytes → map eventOf calls ≡ events (start P B) (inputs calls)
   unfolding Left events
   events-are [] bytes l = refl
   events-are (c ∷ earlier) bytes l =
-      ap (λ a. event (stateIn (c .before)) a ∷ map eventOf earlier)
-      (l .1 .answered ∙ answer-is (toolFrom (c .before)) (c .input) (sound-is earlier (c .before) (l .0)))
+      ap (λ a. event (stateIn (c .before)) a ∷ map eventOf earlier) (answer-given c earlier bytes l)
       ∙ ap (λ s. event s (answerIn s (c .input)) ∷ map eventOf earlier) (state-is earlier (c .before) (l .0))
       ∙ ap (λ es. event now (answerIn now (c .input)) ∷ es) (events-are earlier (c .before) (l .0))
     where
