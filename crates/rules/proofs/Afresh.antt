@@ -18,13 +18,13 @@ use Rattle.rules.specs.Rows.{rowOf}
 use Rattle.rules.specs.Outcome.{answerIn, stateAfter}
 use Rattle.rules.specs.History.{reached, events, isLive, history, done, announcedThere, verifies, verified, wasCancelled}
 
-abbrev AB : List ℕ
+abbrev pub AB : List ℕ
 AB = 0x41 ∷ 0x42 ∷ []
 
 abbrev AC : List ℕ
 AC = 0x41 ∷ 0x43 ∷ []
 
-abbrev input : ℕ → ℕ → List ℕ → Input
+abbrev pub input : ℕ → ℕ → List ℕ → Input
 input number port name = inputOf number port 0 name []
 
 -- One port, no buffer. The latest input stands first: AB is bound, loaded and read, and the host cancels it.

@@ -35,3 +35,11 @@ pub mod Asked
 pub mod Effects
 pub mod Clauses
 pub mod Edges
+pub mod Releases
+pub mod Lawful
+pub mod LawfulShapes
+pub mod LawfulPorts
+pub mod LawfulInside
+pub mod LawfulPods
+pub mod LawfulRows
+pub mod Granted

@@ -32,7 +32,7 @@ module _ (s : State) (i : Input) (h : sound s ≡ true) where
   f = facts s h
 
   -- a port of the tool is as it was sent
-  port-sent : x .isport ≡ true → x .port ≡ i .port
+  pub port-sent : x .isport ≡ true → x .port ≡ i .port
   unfolding see narrow
   port-sent e =
       let b = given-range s i f e .1 in

@@ -12,6 +12,8 @@ use Rattle.rules.specs.Verdict.{takesUnknownPod}
 module _ (x : Seen) where
   pub record Pod : Type 0 where
     pub port : x .isport ≡ true
+    pub present : hasPod (x .here) ≡ true
+    pub unreadable : tagFailed (x .here) ≡ true
     pub still : idle (x .here) ≡ true
     pub free : x .tied ≡ false
 
@@ -19,6 +21,8 @@ module _ (x : Seen) where
   unfolding unknownPod
   unknown-pod e = record {
     port = search (and-l, and-r) depth 6;
+    present = search (and-l, and-r) depth 6;
+    unreadable = search (and-l, and-r) depth 6;
     still = search (and-l, and-r) depth 6;
     free = not-true (x .tied) (and-r (x .isport && hasPod (x .here) && idle (x .here) && tagFailed (x .here)) _ e);
   }

@@ -18,6 +18,8 @@ pub mod TwelveRows
 pub mod EveryRow
 pub mod History
 pub mod Promise
+pub mod Pods
+pub mod Granted
 pub mod Inputs
 pub mod Reachable
 pub mod Conditions
