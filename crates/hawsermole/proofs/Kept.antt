@@ -24,15 +24,17 @@ use Rattle.image.specs.Image.{toolFrom}
 use Rattle.hawsermole.specs.Calls.{Call, Left, stateIn, eventOf, Kept}
 
 -- an accepted set-up is one of 1 to 4 ports and 0 to 16 places
-fits : (P B : ℕ) → setUp P B .answer ≡ 0 → (between 1 P 4 && leb B 16) ≡ true
-unfolding setUp
-fits P B = go (between 1 P 4 && leb B 16)
-  where
-    go : (w : Bool)
-        → _≡_ {A = ℕ} (cond {A = Setup} w (record { tool = inTool (start P B); answer = 0 }) (record { tool = noTool; answer = 1 }) .answer) 0
-        → w ≡ true
-    go true z = refl
-    go false z = absurd (omega arith)
+module _ (P B : ℕ) where
+  abbrev setUpIf : Bool → Setup
+  setUpIf w = cond w (record { tool = inTool (start P B); answer = 0 }) (record { tool = noTool; answer = 1 })
+
+  fits : setUp P B .answer ≡ 0 → (between 1 P 4 && leb B 16) ≡ true
+  unfolding setUp
+  fits = go (between 1 P 4 && leb B 16)
+    where
+      go : (w : Bool) → setUpIf w .answer ≡ 0 → w ≡ true
+      go true z = refl
+      go false z = absurd (omega arith)
 
 -- a sound tool answers as its state does
 answer-is : (t : Tool) (i : Input) → soundTool t ≡ true → outcome t i .answer ≡ answerIn (stateOf t) i
@@ -47,13 +49,15 @@ abbrev inputs : List Call → List Input
 inputs calls = map (λ c. c .input) calls
 
 module _ (P B : ℕ) where
+  -- a run begins with a set-up that was accepted
   set-up : (calls : List Call) (bytes : List ℕ) → Left P B calls bytes → setUp P B .answer ≡ 0
   unfolding Left
   set-up [] bytes l = sym (l .answered)
   set-up (c ∷ earlier) bytes l = set-up earlier (c .before) (l .0)
 
   -- the bytes hold the tool that the definitions reach by the same inputs
-  tool-is : (calls : List Call) (bytes : List ℕ) → Left P B calls bytes → toolFrom bytes ≡ reachedTool (setUp P B .tool) (inputs calls)
+  tool-is : (calls : List Call) (bytes : List ℕ) → Left P B calls bytes
+      → toolFrom bytes ≡ reachedTool (setUp P B .tool) (inputs calls)
   unfolding Left reachedTool
   tool-is [] bytes l = l .tool
   tool-is (c ∷ earlier) bytes l = l .1 .tool ∙ ap (λ t. outcome t (c .input) .tool) (tool-is earlier (c .before) (l .0))
