@@ -15,8 +15,8 @@ use Rattle.rules.specs.Booking.{meant, meantPort}
 abbrev pub bindAsks : Seen → List Bool
 bindAsks x = x .isport ∷ x .named ∷ x .known ∷ reserved (x .here) ∷ x .tied ∷ readyToLoad (x .here) ∷ x .full ∷ []
 
--- 2. CancelBind: 0 a port of the tool, 1 no port given, 2 no name given, 3 a name; 4 it has a record; of the carrier that is meant: 5 no tie,
--- 6 its port is the one given, 7 expected, 8 its port idle
+-- 2. CancelBind: 0 a port of the tool, 1 no port given, 2 no name given, 3 a name; 4 it has a record; of the carrier that is meant:
+-- 5 no tie, 6 its port is the one given, 7 expected, 8 its port idle
 abbrev pub cancelBindAsks : Seen → List Bool
 cancelBindAsks x =
     x .isport ∷ x .noport ∷ x .blank ∷ x .named ∷ x .known ∷ untied (meant x) ∷ eqb (x .port) (meant x .port) ∷ expected (meant x)
@@ -100,8 +100,8 @@ moveInAsks x =
     x .isport ∷ leb 1 (x .value) ∷ leb (x .value) (x .places) ∷ hasPod (x .here) ∷ idle (x .here) ∷ blocked (x .here) ∷ atPort (x .held)
     ∷ idOk (x .held) ∷ x .taken ∷ []
 
--- 19. Open: 0 a name; 1 it has a record; 2 open, 3 NOT ACCESSED, 4 in the buffer, 5 B = 0, 6 at a port, 7 its port idle, 8 BLOCKED; 9 ID OK,
--- 10 slot status FAILED, 11 cancelled; 12 some carrier is open
+-- 19. Open: 0 a name; 1 it has a record; 2 open, 3 NOT ACCESSED, 4 in the buffer, 5 B = 0, 6 at a port, 7 its port idle, 8 BLOCKED;
+-- 9 ID OK, 10 slot status FAILED, 11 cancelled; 12 some carrier is open
 abbrev pub openAsks : Seen → List Bool
 openAsks x =
     x .named ∷ x .known ∷ isOpen (x .found) ∷ notAccessed (x .found) ∷ inBuffer (x .found) ∷ eqb (x .places) 0 ∷ atPort (x .found)
