@@ -12,7 +12,7 @@ from operators import KINDS
 
 
 # Files of rules/specs that are tables of cases and what they need: a definition is tried against them, and they aren't definitions.
-TABLES = ("Inputs", "TwelveRows", "EveryRow", "Reachable", "Conditions", "Pairs", "Effects", "Clauses", "Edges")
+TABLES = ("Inputs", "TwelveRows", "EveryRow", "EveryPair", "Reachable", "Conditions", "Pairs", "Effects", "Clauses", "Edges")
 
 
 def is_table(file):

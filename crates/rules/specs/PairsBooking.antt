@@ -36,8 +36,9 @@ bookingPairs =
     ∷ pair 2 6 (along 2 0 (Bind 1 A ∷ []) (CancelBind 1 A)) 0 (along 2 0 (Bind 1 A ∷ []) (CancelBind 2 A)) 5
     -- expected
     ∷ pair 2 7 (along 1 0 (Bind 1 A ∷ []) (CancelBind 1 [])) 0 (along 1 0 (arrived A) (CancelBind 1 [])) 5
-    -- its port idle
+    -- its port idle: the carrier is given, and the port
     ∷ pair 2 8 (along 1 0 (Bind 1 A ∷ []) (CancelBind 0 A)) 0 (along 1 0 (Bind 1 A ∷ LoadStart 1 ∷ []) (CancelBind 0 A)) 5
+    ∷ pair 2 8 (along 1 0 (Bind 1 A ∷ []) (CancelBind 1 [])) 0 (along 1 0 (Bind 1 A ∷ LoadStart 1 ∷ []) (CancelBind 1 [])) 5
     -- 3. CarrierNotification: a name
     ∷ pair 3 0 (along 1 0 [] (CarrierNotification A16)) 0 (along 1 0 [] (CarrierNotification A17)) 1
     -- it has a record
