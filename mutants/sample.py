@@ -11,8 +11,9 @@ from definition_operators import Right
 from operators import KINDS
 
 
-# Files of rules/specs that are tables of cases and what they need: a definition is tried against them, and they aren't definitions.
-TABLES = ("Inputs", "TwelveRows", "EveryRow", "EveryPair", "Reachable", "Conditions", "Pairs", "Effects", "Clauses", "Edges")
+# Files of rules/specs that are tables of cases and what these need: definitions are tried against them.
+TABLES = ("Inputs", "TwelveRows", "EveryRow", "EveryPair", "Reachable", "Conditions", "Pairs", "Effects", "Clauses",
+          "Edges")
 
 
 def is_table(file):
