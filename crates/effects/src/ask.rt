@@ -1,9 +1,10 @@
 // What rows ask of what they see, and the kinds of effect.
 ghost use mathlib.Core.Path.{_≡_};
 ghost use mathlib.Core.Bool.{cond};
-ghost use Rattle.rules.specs.Row.{otherPort, placed, unknownPod, foundOrNew, onPort, onPortAndGone, onRecord, onBoth};
+ghost use Rattle.rules.specs.Row.{reservedOrTied, otherPort, placed, unknownPod, foundOrNew, onPort, onPortAndGone, onRecord, onBoth};
 use records::carrier::Carrier;
 use records::port::Port;
+use records::words::*;
 use rules::row::Effect;
 use rules::row::Seen;
 
@@ -19,6 +20,12 @@ pub fn either_carrier(b: bool, x: Carrier, y: Carrier) -> Carrier
     if b { x } else { y }
 }
 
+pub fn reserved_or_tied(x: Seen) -> bool
+    ensures { λ r. ⌜ r ≡ reservedOrTied x ⌝ }
+{
+    (x.here.reserved == RESERVED) | x.tied
+}
+
 pub fn other_port(x: Seen, c: Carrier) -> bool
     ensures { λ r. ⌜ r ≡ otherPort x c ⌝ }
 {
@@ -28,21 +35,21 @@ pub fn other_port(x: Seen, c: Carrier) -> bool
 pub fn placed(x: Seen) -> bool
     ensures { λ r. ⌜ r ≡ placed x ⌝ }
 {
-    x.known & (x.found.place != 0)
+    x.known & (x.found.place != EXPECTED)
 }
 
 pub fn unknown_pod(x: Seen) -> bool
     ensures { λ r. ⌜ r ≡ unknownPod x ⌝ }
 {
     let q = x.here;
-    x.isport & (q.pod == 1) & (q.movement == 0) & (q.tag == 2) & !x.tied
+    x.isport & (q.pod == POD_PRESENT) & (q.movement == IDLE) & (q.tag == TAG_FAILED) & !x.tied
 }
 
 pub fn found_or_new(x: Seen) -> Carrier
     ensures { λ r. ⌜ r ≡ foundOrNew x ⌝ }
 {
     let c = x.found;
-    either_carrier(x.known, c, Carrier::fresh(x.name, 0))
+    either_carrier(x.known, c, Carrier::fresh(x.name, NO_PORT))
 }
 
 // Only a port changes; n is the number of records.
@@ -81,7 +88,7 @@ pub fn on_record(n: usize, changes: usize, next: Carrier) -> Effect
 {
     let becomes = Port::none();
     Effect {
-        port: 0,
+        port: NO_PORT,
         becomes,
         goes: n,
         changes,

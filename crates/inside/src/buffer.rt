@@ -3,7 +3,9 @@ ghost use mathlib.Core.Path.{_≡_};
 ghost use Rattle.rules.specs.Row.{judge};
 ghost use Rattle.rules.specs.Buffer.{canComeOut, carrierOut, canGoBack, carrierIn, canMoveIn, verifiedHere, moveIn};
 use effects::ask::on_both;
+use effects::ask::reserved_or_tied;
 use records::choose::first;
+use records::words::*;
 use rules::row::Effect;
 use rules::row::Seen;
 
@@ -11,7 +13,10 @@ fn can_come_out(x: Seen) -> bool
     ensures { λ r. ⌜ r ≡ canComeOut x ⌝ }
 {
     let c = x.found;
-    (c.place == 2) & (c.opened != 1) & (c.accessing != 2) & (x.here.transfer == 1)
+    (c.place == IN_BUFFER)
+        & (c.opened != OPEN)
+        & (c.accessing != IN_ACCESS)
+        & (x.here.transfer == READY_TO_LOAD)
 }
 
 pub fn carrier_out_answer(x: Seen) -> u8
@@ -20,11 +25,7 @@ pub fn carrier_out_answer(x: Seen) -> u8
     let a = first(
         !x.known,
         2,
-        first(
-            (x.here.reserved == 1) | x.tied,
-            4,
-            first(!can_come_out(x), 5, 0),
-        ),
+        first(reserved_or_tied(x), 4, first(!can_come_out(x), 5, 0)),
     );
     first(!x.named, 1, first(!x.isport, 1, a))
 }
@@ -47,7 +48,7 @@ fn can_go_back(x: Seen) -> bool
     ensures { λ r. ⌜ r ≡ canGoBack x ⌝ }
 {
     let c = x.found;
-    (c.place == 1) & (x.home.transfer == 2) & (c.cameout == 1)
+    (c.place == AT_PORT) & (x.home.transfer == READY_TO_UNLOAD) & (c.cameout == ON)
 }
 
 pub fn carrier_in_answer(x: Seen) -> u8
@@ -72,14 +73,14 @@ fn can_move_in(x: Seen) -> bool
     ensures { λ r. ⌜ r ≡ canMoveIn x ⌝ }
 {
     let q = x.here;
-    (q.pod == 1) & (q.movement == 0) & (q.transfer == 3)
+    (q.pod == POD_PRESENT) & (q.movement == IDLE) & (q.transfer == BLOCKED)
 }
 
 fn verified_here(x: Seen) -> bool
     ensures { λ r. ⌜ r ≡ verifiedHere x ⌝ }
 {
     let c = x.held;
-    (c.place == 1) & (c.id == 3)
+    (c.place == AT_PORT) & (c.id == OK)
 }
 
 pub fn move_in_answer(x: Seen) -> u8

@@ -7,6 +7,7 @@ use effects::ask::on_both;
 use effects::ask::on_record;
 use records::choose::first;
 use records::port::Port;
+use records::words::*;
 use rules::row::Effect;
 use rules::row::Seen;
 
@@ -15,17 +16,20 @@ fn can_open(x: Seen) -> bool
 {
     let c = x.found;
     let q = x.home;
-    (c.opened != 1)
-        & (c.accessing == 1)
-        & ((c.place == 2)
-            | ((x.places == 0) & (c.place == 1) & (q.movement == 0) & (q.transfer == 3)))
+    (c.opened != OPEN)
+        & (c.accessing == NOT_ACCESSED)
+        & ((c.place == IN_BUFFER)
+            | ((x.places == 0)
+                & (c.place == AT_PORT)
+                & (q.movement == IDLE)
+                & (q.transfer == BLOCKED)))
 }
 
 fn not_verified(x: Seen) -> bool
     ensures { λ r. ⌜ r ≡ notVerified x ⌝ }
 {
     let c = x.found;
-    (c.id != 3) | (c.slot == 4) | (c.cancelled == 1)
+    (c.id != OK) | (c.slot == FAILED) | (c.cancelled == ON)
 }
 
 fn opener_in_use(x: Seen) -> bool
@@ -49,14 +53,18 @@ pub fn open_effect(x: Seen) -> Effect
     ensures { λ r. ⌜ r ≡ openRow x .effect ⌝ }
 {
     let c = x.found;
-    on_record(x.count, x.stands, c.with_opened(1))
+    on_record(x.count, x.stands, c.with_opened(OPEN))
 }
 
 pub fn slot_map_answer(x: Seen) -> u8
     ensures { λ r. ⌜ r ≡ judge (slotMap x .grounds) ⌝ }
 {
     let c = x.found;
-    let a = first(!x.known, 2, first(!((c.opened == 1) & (c.slot == 1)), 5, 0));
+    let a = first(
+        !x.known,
+        2,
+        first(!((c.opened == OPEN) & (c.slot == NOT_READ)), 5, 0),
+    );
     first(!x.named, 1, first(!x.mapped, 1, a))
 }
 
@@ -65,7 +73,7 @@ pub fn slot_map_effect(x: Seen) -> Effect
 {
     let c = x.found;
     let map = x.map;
-    on_record(x.count, x.stands, c.with_map(map, 2))
+    on_record(x.count, x.stands, c.with_map(map, WAITING))
 }
 
 pub fn access_start_answer(x: Seen) -> u8
@@ -73,9 +81,9 @@ pub fn access_start_answer(x: Seen) -> u8
 {
     let c = x.found;
     let a = first(
-        !((c.opened == 1) & (c.accessing == 1)),
+        !((c.opened == OPEN) & (c.accessing == NOT_ACCESSED)),
         5,
-        first(c.slot != 3, 7, 0),
+        first(c.slot != OK, 7, 0),
     );
     first(!x.named, 1, first(!x.known, 2, a))
 }
@@ -84,14 +92,14 @@ pub fn access_start_effect(x: Seen) -> Effect
     ensures { λ r. ⌜ r ≡ accessStart x .effect ⌝ }
 {
     let c = x.found;
-    on_record(x.count, x.stands, c.with_accessing(2))
+    on_record(x.count, x.stands, c.with_accessing(IN_ACCESS))
 }
 
 pub fn access_end_answer(x: Seen) -> u8
     ensures { λ r. ⌜ r ≡ judge (accessEnd x .grounds) ⌝ }
 {
-    let a = first(!x.known, 2, first(x.found.accessing != 2, 5, 0));
-    first(!x.named, 1, first(!(x.value <= 1), 1, a))
+    let a = first(!x.known, 2, first(x.found.accessing != IN_ACCESS, 5, 0));
+    first(!x.named, 1, first(!(x.value <= ACCESS_END_STOPPED), 1, a))
 }
 
 pub fn access_end_effect(x: Seen) -> Effect
@@ -101,7 +109,7 @@ pub fn access_end_effect(x: Seen) -> Effect
     on_record(
         x.count,
         x.stands,
-        c.with_accessing(first(x.value == 0, 3, 4)),
+        c.with_accessing(first(x.value == ACCESS_END_COMPLETE, COMPLETE, STOPPED)),
     )
 }
 
@@ -115,7 +123,7 @@ pub fn close_answer(x: Seen) -> u8
         first(
             !x.known,
             2,
-            first(!((c.opened == 1) & (c.accessing != 2)), 5, 0),
+            first(!((c.opened == OPEN) & (c.accessing != IN_ACCESS)), 5, 0),
         ),
     )
 }
@@ -124,7 +132,7 @@ fn leaves_port(x: Seen) -> bool
     ensures { λ r. ⌜ r ≡ leavesPort x ⌝ }
 {
     let c = x.found;
-    (c.place == 1) & (3 <= c.accessing)
+    (c.place == AT_PORT) & (COMPLETE <= c.accessing)
 }
 
 pub fn close_effect(x: Seen) -> Effect
@@ -135,9 +143,9 @@ pub fn close_effect(x: Seen) -> Effect
     let leaves = leaves_port(x);
     on_both(
         x.count,
-        first(leaves, c.port, 0),
+        first(leaves, c.port, NO_PORT),
         either_port(leaves, q.to_unload(), Port::none()),
         x.stands,
-        c.with_opened(0),
+        c.with_opened(CLOSED),
     )
 }

@@ -11,20 +11,21 @@ use records::carrier::Carrier;
 use records::choose::either;
 use records::choose::first;
 use records::port::Port;
+use records::words::*;
 use rules::row::Effect;
 use rules::row::Seen;
 
 fn readable(q: Port) -> bool
     ensures { λ r. ⌜ r ≡ readable q ⌝ }
 {
-    (q.pod == 1) & (q.movement == 0) & (q.tag == 0)
+    (q.pod == POD_PRESENT) & (q.movement == IDLE) & (q.tag == TAG_UNREAD)
 }
 
 fn elsewhere(x: Seen) -> bool
     ensures { λ r. ⌜ r ≡ elsewhere x ⌝ }
 {
     let c = x.found;
-    placed(x) | (x.known & (c.port != 0) & other_port(x, c))
+    placed(x) | (x.known & (c.port != NO_PORT) & other_port(x, c))
 }
 
 fn matching(x: Seen) -> bool
@@ -53,7 +54,7 @@ pub fn id_read_effect(x: Seen) -> Effect
     let becomes = q.tag_read(x.name);
     let next = found_or_new(x)
         .placed_at(x.port)
-        .with_id(first(matching(x), 3, 2));
+        .with_id(first(matching(x), OK, WAITING));
     Effect {
         port: x.port,
         becomes,
@@ -75,6 +76,10 @@ pub fn id_read_failed_effect(x: Seen) -> Effect
 {
     let q = x.here;
     let c = x.held;
-    let next = either_carrier(x.tied, c.placed_at(x.port).with_id(2), Carrier::none());
+    let next = either_carrier(
+        x.tied,
+        c.placed_at(x.port).with_id(WAITING),
+        Carrier::none(),
+    );
     on_both(x.count, x.port, q.tag_not_read(), x.holds, next)
 }

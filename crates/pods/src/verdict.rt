@@ -12,13 +12,14 @@ use effects::ask::unknown_pod;
 use records::carrier::Carrier;
 use records::choose::first;
 use records::port::Port;
+use records::words::*;
 use rules::row::Effect;
 use rules::row::Seen;
 
 fn takes_unknown_pod(x: Seen) -> bool
     ensures { λ r. ⌜ r ≡ takesUnknownPod x ⌝ }
 {
-    (x.found.port == 0) & unknown_pod(x)
+    (x.found.port == NO_PORT) & unknown_pod(x)
 }
 
 // What both rows answer; `can` is what the row asks of a placed carrier.
@@ -41,7 +42,7 @@ fn answer_unless(can: bool, x: Seen) -> u8
 fn can_proceed(x: Seen, c: Carrier) -> bool
     ensures { λ r. ⌜ r ≡ canProceed x c ⌝ }
 {
-    !other_port(x, c) & ((c.id == 2) | ((c.id == 3) & (c.slot == 2)))
+    !other_port(x, c) & ((c.id == WAITING) | ((c.id == OK) & (c.slot == WAITING)))
 }
 
 pub fn proceed_with_carrier_answer(x: Seen) -> u8
@@ -57,12 +58,12 @@ pub fn proceed_with_carrier_effect(x: Seen) -> Effect
     let is = placed(x);
     let q = x.here;
     let c = x.found;
-    let port = first(is, 0, x.port);
+    let port = first(is, NO_PORT, x.port);
     let becomes = either_port(is, Port::none(), q.tied_to(x.name));
     let next = either_carrier(
         is,
         c.proceeded(),
-        found_or_new(x).placed_at(x.port).with_id(3),
+        found_or_new(x).placed_at(x.port).with_id(OK),
     );
     Effect {
         port,
@@ -77,7 +78,7 @@ pub fn proceed_with_carrier_effect(x: Seen) -> Effect
 fn can_cancel(x: Seen, c: Carrier, q: Port) -> bool
     ensures { λ r. ⌜ r ≡ canCancel x c q ⌝ }
 {
-    !other_port(x, c) & (c.accessing != 2) & ((c.place != 1) | (q.movement == 0))
+    !other_port(x, c) & (c.accessing != IN_ACCESS) & ((c.place != AT_PORT) | (q.movement == IDLE))
 }
 
 pub fn cancel_carrier_answer(x: Seen) -> u8
@@ -92,7 +93,11 @@ fn cancel_at(x: Seen) -> u8
     ensures { λ r. ⌜ r ≡ cancelAt x ⌝ }
 {
     let c = x.found;
-    first(placed(x), first(c.place == 1, c.port, 0), x.port)
+    first(
+        placed(x),
+        first(c.place == AT_PORT, c.port, NO_PORT),
+        x.port,
+    )
 }
 
 fn cancel_port(x: Seen) -> Port
@@ -102,7 +107,7 @@ fn cancel_port(x: Seen) -> Port
     let q = x.here;
     either_port(
         placed(x),
-        either_port(c.place == 1, x.home, Port::none()),
+        either_port(c.place == AT_PORT, x.home, Port::none()),
         q.tied_to(x.name),
     )
 }
@@ -114,7 +119,7 @@ fn failed(x: Seen) -> Carrier
     either_carrier(
         placed(x),
         c.judged_no(),
-        found_or_new(x).placed_at(x.port).with_id(4),
+        found_or_new(x).placed_at(x.port).with_id(FAILED),
     )
 }
 
@@ -123,8 +128,8 @@ pub fn cancel_carrier_effect(x: Seen) -> Effect
 {
     let port = cancel_at(x);
     let q = cancel_port(x);
-    let becomes = either_port(port == 0, Port::none(), q.to_unload());
-    let next = failed(x).cancelled_by(q.transfer == 2);
+    let becomes = either_port(port == NO_PORT, Port::none(), q.to_unload());
+    let next = failed(x).cancelled_by(q.transfer == READY_TO_UNLOAD);
     Effect {
         port,
         becomes,

@@ -7,18 +7,20 @@ use effects::ask::either_carrier;
 use effects::ask::either_port;
 use effects::ask::on_port_and_gone;
 use effects::ask::other_port;
+use effects::ask::reserved_or_tied;
 use records::carrier::Carrier;
 use records::choose::either;
 use records::choose::first;
 use records::port::Port;
+use records::words::*;
 use rules::row::Effect;
 use rules::row::Seen;
 
 pub fn bind_answer(x: Seen) -> u8
     ensures { λ r. ⌜ r ≡ judge (bind x .grounds) ⌝ }
 {
-    let a = first(x.here.transfer != 1, 5, first(x.full, 6, 0));
-    let b = first(x.known, 3, first((x.here.reserved == 1) | x.tied, 4, a));
+    let a = first(x.here.transfer != READY_TO_LOAD, 5, first(x.full, 6, 0));
+    let b = first(x.known, 3, first(reserved_or_tied(x), 4, a));
     first(!x.isport, 1, first(!x.named, 1, b))
 }
 
@@ -59,7 +61,7 @@ fn meant_stands(x: Seen) -> usize
 fn one_pair(x: Seen, c: Carrier, q: Port) -> bool
     ensures { λ r. ⌜ r ≡ onePair x c q ⌝ }
 {
-    (c.port != 0) & !other_port(x, c) & (c.place == 0) & (q.movement == 0)
+    (c.port != NO_PORT) & !other_port(x, c) & (c.place == EXPECTED) & (q.movement == IDLE)
 }
 
 pub fn cancel_bind_answer(x: Seen) -> u8
@@ -95,9 +97,9 @@ pub fn carrier_notification_effect(x: Seen) -> Effect
     ensures { λ r. ⌜ r ≡ carrierNotification x .effect ⌝ }
 {
     let becomes = Port::none();
-    let next = Carrier::fresh(x.name, 0);
+    let next = Carrier::fresh(x.name, NO_PORT);
     Effect {
-        port: 0,
+        port: NO_PORT,
         becomes,
         goes: x.count,
         changes: x.count,
@@ -113,12 +115,16 @@ pub fn cancel_carrier_notification_answer(x: Seen) -> u8
     first(
         !x.named,
         1,
-        first(!x.known, 2, first(!((c.place == 0) & (c.port == 0)), 5, 0)),
+        first(
+            !x.known,
+            2,
+            first(!((c.place == EXPECTED) & (c.port == NO_PORT)), 5, 0),
+        ),
     )
 }
 
 pub fn cancel_carrier_notification_effect(x: Seen) -> Effect
     ensures { λ r. ⌜ r ≡ cancelCarrierNotification x .effect ⌝ }
 {
-    on_port_and_gone(x.count, 0, Port::none(), x.stands)
+    on_port_and_gone(x.count, NO_PORT, Port::none(), x.stands)
 }

@@ -4,7 +4,9 @@ ghost use Rattle.rules.specs.Row.{judge};
 ghost use Rattle.rules.specs.Service.{otherAccess, changeAccess, goesOut, comesIn, changeServiceStatus};
 ghost use Rattle.rules.specs.Service.{reserveAtPort, cancelReservationAtPort};
 use effects::ask::on_port;
+use effects::ask::reserved_or_tied;
 use records::choose::first;
+use records::words::*;
 use rules::row::Effect;
 use rules::row::Seen;
 
@@ -19,11 +21,11 @@ pub fn change_access_answer(x: Seen) -> u8
 {
     let q = x.here;
     let a = first(
-        other_access(x) & (q.reserved == 1),
+        other_access(x) & (q.reserved == RESERVED),
         4,
-        first(other_access(x) & (q.movement != 0), 5, 0),
+        first(other_access(x) & (q.movement != IDLE), 5, 0),
     );
-    first(!x.isport, 1, first(!(x.value <= 1), 1, a))
+    first(!x.isport, 1, first(!(x.value <= AUTO), 1, a))
 }
 
 pub fn change_access_effect(x: Seen) -> Effect
@@ -36,13 +38,13 @@ pub fn change_access_effect(x: Seen) -> Effect
 fn goes_out(x: Seen) -> bool
     ensures { λ r. ⌜ r ≡ goesOut x ⌝ }
 {
-    (x.here.transfer != 0) & (x.value == 0)
+    (x.here.transfer != OUT_OF_SERVICE) & (x.value == SERVICE_OUT)
 }
 
 fn comes_in(x: Seen) -> bool
     ensures { λ r. ⌜ r ≡ comesIn x ⌝ }
 {
-    (x.here.transfer == 0) & (x.value == 1)
+    (x.here.transfer == OUT_OF_SERVICE) & (x.value == SERVICE_IN)
 }
 
 pub fn change_service_status_answer(x: Seen) -> u8
@@ -50,11 +52,11 @@ pub fn change_service_status_answer(x: Seen) -> u8
 {
     let out = goes_out(x);
     let a = first(
-        out & ((x.here.reserved == 1) | x.tied),
+        out & reserved_or_tied(x),
         4,
-        first(out & (x.here.transfer != 1), 5, 0),
+        first(out & (x.here.transfer != READY_TO_LOAD), 5, 0),
     );
-    first(!x.isport, 1, first(!(x.value <= 1), 1, a))
+    first(!x.isport, 1, first(!(x.value <= SERVICE_IN), 1, a))
 }
 
 pub fn change_service_status_effect(x: Seen) -> Effect
@@ -64,7 +66,11 @@ pub fn change_service_status_effect(x: Seen) -> Effect
     on_port(
         x.count,
         x.port,
-        q.with_transfer(first(goes_out(x), 0, first(comes_in(x), 1, q.transfer))),
+        q.with_transfer(first(
+            goes_out(x),
+            OUT_OF_SERVICE,
+            first(comes_in(x), READY_TO_LOAD, q.transfer),
+        )),
     )
 }
 
@@ -75,9 +81,9 @@ pub fn reserve_at_port_answer(x: Seen) -> u8
         !x.isport,
         1,
         first(
-            (x.here.reserved == 1) | x.tied,
+            reserved_or_tied(x),
             4,
-            first(x.here.transfer != 1, 5, 0),
+            first(x.here.transfer != READY_TO_LOAD, 5, 0),
         ),
     )
 }
@@ -86,7 +92,7 @@ pub fn reserve_at_port_effect(x: Seen) -> Effect
     ensures { λ r. ⌜ r ≡ reserveAtPort x .effect ⌝ }
 {
     let q = x.here;
-    on_port(x.count, x.port, q.with_reserved(1))
+    on_port(x.count, x.port, q.with_reserved(RESERVED))
 }
 
 pub fn cancel_reservation_at_port_answer(x: Seen) -> u8
@@ -95,7 +101,7 @@ pub fn cancel_reservation_at_port_answer(x: Seen) -> u8
     first(
         !x.isport,
         1,
-        first(x.tied, 4, first(x.here.reserved != 1, 5, 0)),
+        first(x.tied, 4, first(x.here.reserved != RESERVED, 5, 0)),
     )
 }
 
@@ -103,5 +109,5 @@ pub fn cancel_reservation_at_port_effect(x: Seen) -> Effect
     ensures { λ r. ⌜ r ≡ cancelReservationAtPort x .effect ⌝ }
 {
     let q = x.here;
-    on_port(x.count, x.port, q.with_reserved(0))
+    on_port(x.count, x.port, q.with_reserved(NOT_RESERVED))
 }

@@ -5,13 +5,14 @@ ghost use Rattle.rules.specs.Transfer.{loadStart, loadDone, loadFail, unloadSta
 use effects::ask::on_port;
 use effects::ask::on_port_and_gone;
 use records::choose::first;
+use records::words::*;
 use rules::row::Effect;
 use rules::row::Seen;
 
 pub fn load_start_answer(x: Seen) -> u8
     ensures { λ r. ⌜ r ≡ judge (loadStart x .grounds) ⌝ }
 {
-    first(!x.isport, 1, first(x.here.transfer != 1, 5, 0))
+    first(!x.isport, 1, first(x.here.transfer != READY_TO_LOAD, 5, 0))
 }
 
 pub fn load_start_effect(x: Seen) -> Effect
@@ -24,7 +25,7 @@ pub fn load_start_effect(x: Seen) -> Effect
 pub fn load_done_answer(x: Seen) -> u8
     ensures { λ r. ⌜ r ≡ judge (loadDone x .grounds) ⌝ }
 {
-    first(!x.isport, 1, first(x.here.movement != 1, 5, 0))
+    first(!x.isport, 1, first(x.here.movement != LOADING, 5, 0))
 }
 
 pub fn load_done_effect(x: Seen) -> Effect
@@ -37,7 +38,7 @@ pub fn load_done_effect(x: Seen) -> Effect
 pub fn load_fail_answer(x: Seen) -> u8
     ensures { λ r. ⌜ r ≡ judge (loadFail x .grounds) ⌝ }
 {
-    first(!x.isport, 1, first(x.here.movement != 1, 5, 0))
+    first(!x.isport, 1, first(x.here.movement != LOADING, 5, 0))
 }
 
 pub fn load_fail_effect(x: Seen) -> Effect
@@ -50,7 +51,11 @@ pub fn load_fail_effect(x: Seen) -> Effect
 pub fn unload_start_answer(x: Seen) -> u8
     ensures { λ r. ⌜ r ≡ judge (unloadStart x .grounds) ⌝ }
 {
-    first(!x.isport, 1, first(x.here.transfer != 2, 5, 0))
+    first(
+        !x.isport,
+        1,
+        first(x.here.transfer != READY_TO_UNLOAD, 5, 0),
+    )
 }
 
 pub fn unload_start_effect(x: Seen) -> Effect
@@ -63,7 +68,7 @@ pub fn unload_start_effect(x: Seen) -> Effect
 pub fn unload_done_answer(x: Seen) -> u8
     ensures { λ r. ⌜ r ≡ judge (unloadDone x .grounds) ⌝ }
 {
-    first(!x.isport, 1, first(x.here.movement != 2, 5, 0))
+    first(!x.isport, 1, first(x.here.movement != UNLOADING, 5, 0))
 }
 
 pub fn unload_done_effect(x: Seen) -> Effect
@@ -76,7 +81,7 @@ pub fn unload_done_effect(x: Seen) -> Effect
 pub fn unload_fail_answer(x: Seen) -> u8
     ensures { λ r. ⌜ r ≡ judge (unloadFail x .grounds) ⌝ }
 {
-    first(!x.isport, 1, first(x.here.movement != 2, 5, 0))
+    first(!x.isport, 1, first(x.here.movement != UNLOADING, 5, 0))
 }
 
 pub fn unload_fail_effect(x: Seen) -> Effect

@@ -5,9 +5,10 @@ ghost use Rattle.records.specs.Carriers.{takenOut, takenBack, movedIn, w
 ghost use Rattle.records.specs.Fields.{withId, withOpened, withAccessing};
 use crate::choose::first;
 use crate::name::Name;
+use crate::sizes::*;
+use crate::words::*;
 
-// place: 0 expected, 1 at a port, 2 in the buffer; spot: the buffer place, or 0; port: the tie, or 0;
-// id, slot: 1 NOT READ, 2 WAITING FOR HOST, 3 OK, 4 FAILED; accessing: 1 NOT ACCESSED, 2 IN ACCESS, 3 COMPLETE, 4 STOPPED.
+// spot: the buffer place; port: the tie; the states are in `words`.
 #[repr(C)]
 pub struct Carrier {
     pub name: Name,
@@ -17,7 +18,7 @@ pub struct Carrier {
     pub opened: u8,
     pub cancelled: u8,
     pub cameout: u8,
-    pub map: [u8; 25],
+    pub map: [u8; SLOTS],
     pub id: u8,
     pub slot: u8,
     pub accessing: u8,
@@ -27,8 +28,10 @@ impl Carrier {
     pub fn none() -> Carrier
         ensures { λ r. ⌜ r ≡ noCarrier ⌝ }
     {
-        let name = Name { bytes: [0; 16] };
-        let map = [0; 25];
+        let name = Name {
+            bytes: [0; NAME_BYTES],
+        };
+        let map = [0; SLOTS];
         Carrier {
             name,
             place: 0,
@@ -44,23 +47,23 @@ impl Carrier {
         }
     }
 
-    // A new record, tied to a port (0: to none).
+    // A new record, tied to a port, or to none.
     pub fn fresh(name: Name, port: u8) -> Carrier
         ensures { λ r. ⌜ r ≡ newCarrier name port ⌝ }
     {
-        let map = [0; 25];
+        let map = [0; SLOTS];
         Carrier {
             name,
-            place: 0,
-            spot: 0,
+            place: EXPECTED,
+            spot: NO_SPOT,
             port,
-            opened: 0,
-            cancelled: 0,
-            cameout: 0,
+            opened: CLOSED,
+            cancelled: OFF,
+            cameout: OFF,
             map,
-            id: 1,
-            slot: 1,
-            accessing: 1,
+            id: NOT_READ,
+            slot: NOT_READ,
+            accessing: NOT_ACCESSED,
         }
     }
 
@@ -68,8 +71,8 @@ impl Carrier {
     pub fn placed_at(mut self, p: u8) -> Carrier
         ensures { λ r. ⌜ r ≡ placedAt p self ⌝ }
     {
-        self.place = 1;
-        self.spot = 0;
+        self.place = AT_PORT;
+        self.spot = NO_SPOT;
         self.port = p;
         self
     }
@@ -86,10 +89,10 @@ impl Carrier {
     pub fn proceeded(self) -> Carrier
         ensures { λ r. ⌜ r ≡ proceeded self ⌝ }
     {
-        let waits = self.id == 2;
+        let waits = self.id == WAITING;
         let mut c = self;
-        c.id = first(waits, 3, self.id);
-        c.slot = first(waits, self.slot, 3);
+        c.id = first(waits, OK, self.id);
+        c.slot = first(waits, self.slot, OK);
         c
     }
 
@@ -98,8 +101,12 @@ impl Carrier {
         ensures { λ r. ⌜ r ≡ judgedNo self ⌝ }
     {
         let mut c = self;
-        c.id = first(self.id == 2, 4, self.id);
-        c.slot = first((self.id != 2) & (self.slot == 2), 4, self.slot);
+        c.id = first(self.id == WAITING, FAILED, self.id);
+        c.slot = first(
+            (self.id != WAITING) & (self.slot == WAITING),
+            FAILED,
+            self.slot,
+        );
         c
     }
 
@@ -108,9 +115,9 @@ impl Carrier {
         ensures { λ r. ⌜ r ≡ cancelledBy stays self ⌝ }
     {
         let mut c = self;
-        c.opened = 0;
-        c.cancelled = 1;
-        c.cameout = first(stays, self.cameout, 0);
+        c.opened = CLOSED;
+        c.cancelled = ON;
+        c.cameout = first(stays, self.cameout, OFF);
         c
     }
 
@@ -118,10 +125,10 @@ impl Carrier {
     pub fn taken_out(mut self, p: u8) -> Carrier
         ensures { λ r. ⌜ r ≡ takenOut p self ⌝ }
     {
-        self.place = 1;
-        self.spot = 0;
+        self.place = AT_PORT;
+        self.spot = NO_SPOT;
         self.port = p;
-        self.cameout = 1;
+        self.cameout = ON;
         self
     }
 
@@ -129,7 +136,7 @@ impl Carrier {
     pub fn taken_back(mut self) -> Carrier
         ensures { λ r. ⌜ r ≡ takenBack self ⌝ }
     {
-        self.cameout = 0;
+        self.cameout = OFF;
         self
     }
 
@@ -137,9 +144,9 @@ impl Carrier {
     pub fn moved_in(mut self, b: u8) -> Carrier
         ensures { λ r. ⌜ r ≡ movedIn b self ⌝ }
     {
-        self.place = 2;
+        self.place = IN_BUFFER;
         self.spot = b;
-        self.port = 0;
+        self.port = NO_PORT;
         self
     }
 
@@ -152,7 +159,7 @@ impl Carrier {
     }
 
     // The map kept, slot status set.
-    pub fn with_map(mut self, m: [u8; 25], v: u8) -> Carrier
+    pub fn with_map(mut self, m: [u8; SLOTS], v: u8) -> Carrier
         ensures { λ r. ⌜ r ≡ withMap m v self ⌝ }
     {
         self.map = m;

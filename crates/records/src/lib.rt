@@ -5,3 +5,5 @@ pub mod fill;
 pub mod map;
 pub mod name;
 pub mod port;
+pub mod sizes;
+pub mod words;

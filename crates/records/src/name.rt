@@ -2,24 +2,27 @@
 ghost use mathlib.Core.Path.{_≡_};
 ghost use Rattle.records.specs.Names.{noName, sameName, isName, inBytes};
 use crate::fill::fill;
+use crate::sizes::*;
 
 #[repr(C)]
 pub struct Name {
-    pub bytes: [u8; 16],
+    pub bytes: [u8; NAME_BYTES],
 }
 
 impl Name {
     pub fn none() -> Name
         ensures { λ r. ⌜ r ≡ noName ⌝ }
     {
-        Name { bytes: [0; 16] }
+        Name {
+            bytes: [0; NAME_BYTES],
+        }
     }
 
     pub fn same(self, other: Name) -> bool
         ensures { λ r. ⌜ r ≡ sameName self other ⌝ }
     {
         let mut same = true;
-        let mut i = 16;
+        let mut i = NAME_BYTES;
         while 0 < i {
             i -= 1;
             same = (self.bytes[i] == other.bytes[i]) & same;
@@ -36,7 +39,7 @@ pub fn is_name(text: &[u8]) -> bool
     if n < 1 {
         return false;
     }
-    if 16 < n {
+    if NAME_BYTES < n {
         return false;
     }
     let mut good = true;
@@ -44,7 +47,7 @@ pub fn is_name(text: &[u8]) -> bool
     while 0 < i {
         i -= 1;
         let b = text[i];
-        good = ((0x21 <= b) & (b <= 0x7E)) & good;
+        good = ((NAME_BYTE_LEAST <= b) & (b <= NAME_BYTE_GREATEST)) & good;
     }
     good
 }
@@ -53,7 +56,7 @@ pub fn is_name(text: &[u8]) -> bool
 pub fn in_bytes(text: &[u8]) -> Name
     ensures { λ r. ⌜ r ≡ inBytes (now (text .entry)) ⌝ }
 {
-    let mut bytes = [0; 16];
+    let mut bytes = [0; NAME_BYTES];
     fill(&mut bytes, text);
     Name { bytes }
 }

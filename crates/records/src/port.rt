@@ -5,9 +5,10 @@ ghost use Rattle.records.specs.Ports.{startLoad, loaded, notLoaded, tagR
 ghost use Rattle.records.specs.Ports.{startUnload, notUnloaded};
 ghost use Rattle.records.specs.Fields.{tiedTo, withAccess, withTransfer, withReserved};
 use crate::name::Name;
+use crate::sizes::NAME_BYTES;
+use crate::words::*;
 
-// transfer: 0 OUT OF SERVICE, 1 READY TO LOAD, 2 READY TO UNLOAD, 3 TRANSFER BLOCKED; access: 0 MANUAL, 1 AUTO;
-// movement: 0 none, 1 loading, 2 unloading; tag: 0 unread, 1 read, 2 failed; tie: a name, or all zeros.
+// tie: a carrier's name, or all zeros; the states are in `words`.
 #[repr(C)]
 pub struct Port {
     pub transfer: u8,
@@ -23,7 +24,9 @@ impl Port {
     pub fn none() -> Port
         ensures { λ r. ⌜ r ≡ noPort ⌝ }
     {
-        let tie = Name { bytes: [0; 16] };
+        let tie = Name {
+            bytes: [0; NAME_BYTES],
+        };
         Port {
             transfer: 0,
             access: 0,
@@ -39,15 +42,17 @@ impl Port {
     pub fn fresh() -> Port
         ensures { λ r. ⌜ r ≡ newPort ⌝ }
     {
-        let tie = Name { bytes: [0; 16] };
+        let tie = Name {
+            bytes: [0; NAME_BYTES],
+        };
         Port {
-            transfer: 1,
-            access: 0,
-            reserved: 0,
+            transfer: READY_TO_LOAD,
+            access: MANUAL,
+            reserved: NOT_RESERVED,
             tie,
-            movement: 0,
-            pod: 0,
-            tag: 0,
+            movement: IDLE,
+            pod: NO_POD,
+            tag: TAG_UNREAD,
         }
     }
 
@@ -55,7 +60,7 @@ impl Port {
     pub fn bound_to(mut self, n: Name) -> Port
         ensures { λ r. ⌜ r ≡ boundTo n self ⌝ }
     {
-        self.reserved = 1;
+        self.reserved = RESERVED;
         self.tie = n;
         self
     }
@@ -64,8 +69,10 @@ impl Port {
     pub fn unbound(mut self) -> Port
         ensures { λ r. ⌜ r ≡ unbound self ⌝ }
     {
-        let tie = Name { bytes: [0; 16] };
-        self.reserved = 0;
+        let tie = Name {
+            bytes: [0; NAME_BYTES],
+        };
+        self.reserved = NOT_RESERVED;
         self.tie = tie;
         self
     }
@@ -82,7 +89,7 @@ impl Port {
     pub fn to_unload(mut self) -> Port
         ensures { λ r. ⌜ r ≡ toUnload self ⌝ }
     {
-        self.transfer = 2;
+        self.transfer = READY_TO_UNLOAD;
         self
     }
 
@@ -90,10 +97,10 @@ impl Port {
     pub fn handed_out(mut self, n: Name) -> Port
         ensures { λ r. ⌜ r ≡ handedOut n self ⌝ }
     {
-        self.transfer = 2;
+        self.transfer = READY_TO_UNLOAD;
         self.tie = n;
-        self.pod = 1;
-        self.tag = 1;
+        self.pod = POD_PRESENT;
+        self.tag = TAG_READ;
         self
     }
 
@@ -101,7 +108,7 @@ impl Port {
     pub fn to_blocked(mut self) -> Port
         ensures { λ r. ⌜ r ≡ toBlocked self ⌝ }
     {
-        self.transfer = 3;
+        self.transfer = BLOCKED;
         self
     }
 
@@ -133,9 +140,9 @@ impl Port {
     pub fn start_load(mut self) -> Port
         ensures { λ r. ⌜ r ≡ startLoad self ⌝ }
     {
-        self.transfer = 3;
-        self.reserved = 0;
-        self.movement = 1;
+        self.transfer = BLOCKED;
+        self.reserved = NOT_RESERVED;
+        self.movement = LOADING;
         self
     }
 
@@ -143,9 +150,9 @@ impl Port {
     pub fn loaded(mut self) -> Port
         ensures { λ r. ⌜ r ≡ loaded self ⌝ }
     {
-        self.movement = 0;
-        self.pod = 1;
-        self.tag = 0;
+        self.movement = IDLE;
+        self.pod = POD_PRESENT;
+        self.tag = TAG_UNREAD;
         self
     }
 
@@ -153,8 +160,8 @@ impl Port {
     pub fn not_loaded(mut self) -> Port
         ensures { λ r. ⌜ r ≡ notLoaded self ⌝ }
     {
-        self.transfer = 1;
-        self.movement = 0;
+        self.transfer = READY_TO_LOAD;
+        self.movement = IDLE;
         self
     }
 
@@ -163,7 +170,7 @@ impl Port {
         ensures { λ r. ⌜ r ≡ tagRead n self ⌝ }
     {
         self.tie = n;
-        self.tag = 1;
+        self.tag = TAG_READ;
         self
     }
 
@@ -171,7 +178,7 @@ impl Port {
     pub fn tag_not_read(mut self) -> Port
         ensures { λ r. ⌜ r ≡ tagNotRead self ⌝ }
     {
-        self.tag = 2;
+        self.tag = TAG_FAILED;
         self
     }
 
@@ -179,12 +186,14 @@ impl Port {
     pub fn emptied(mut self) -> Port
         ensures { λ r. ⌜ r ≡ emptied self ⌝ }
     {
-        let tie = Name { bytes: [0; 16] };
-        self.transfer = 1;
+        let tie = Name {
+            bytes: [0; NAME_BYTES],
+        };
+        self.transfer = READY_TO_LOAD;
         self.tie = tie;
-        self.movement = 0;
-        self.pod = 0;
-        self.tag = 0;
+        self.movement = IDLE;
+        self.pod = NO_POD;
+        self.tag = TAG_UNREAD;
         self
     }
 
@@ -192,8 +201,8 @@ impl Port {
     pub fn start_unload(mut self) -> Port
         ensures { λ r. ⌜ r ≡ startUnload self ⌝ }
     {
-        self.transfer = 3;
-        self.movement = 2;
+        self.transfer = BLOCKED;
+        self.movement = UNLOADING;
         self
     }
 
@@ -201,8 +210,8 @@ impl Port {
     pub fn not_unloaded(mut self) -> Port
         ensures { λ r. ⌜ r ≡ notUnloaded self ⌝ }
     {
-        self.transfer = 2;
-        self.movement = 0;
+        self.transfer = READY_TO_UNLOAD;
+        self.movement = IDLE;
         self
     }
 }

@@ -4,12 +4,5 @@ use Rattle.ports.proofs.booking.bind_answer.Tie as tie
 pub bind-answer-spec : {M : Type 1} → statement M
 bind-answer-spec =
     tie.close
-    (tie.spec (λ c κs. tt) (λ c κs. tt) (λ c κs. tt) (λ c κs. tt) (λ c κs. tt) (λ c κs. tt)
-    (λ c. rw (
-      c .first6 .ensures,
-      c .before .first5 .ensures,
-      c .before .before .before .before .first4 .ensures,
-      c .before .before .before .before .before .first3 .ensures,
-      c .before .before .before .before .before .before .before .before .first2 .ensures,
-      c .before .before .before .before .before .before .before .before .before .first .ensures,
-    )))
+    (tie.spec (λ c κs. tt) (λ c κs. tt) (λ c κs. tt) (λ c κs. tt) (λ c κs. tt) (λ c κs. tt) (λ c κs. tt)
+    (λ c. cc))

@@ -4,11 +4,5 @@ use Rattle.ports.proofs.service.change_service_status_answer.Tie as tie
 pub change-service-status-answer-spec : {M : Type 1} → statement M
 change-service-status-answer-spec =
     tie.close
-    (tie.spec (λ c κs. tt) (λ c κs. tt) (λ c κs. tt) (λ c κs. tt) (λ c κs. tt)
-    (λ c. rw (
-      c .first4 .ensures,
-      c .before .first3 .ensures,
-      c .before .before .before .before .first2 .ensures,
-      c .before .before .before .before .before .first .ensures,
-      c .before .before .before .before .before .before .before .before .before .goes-out .ensures,
-    )))
+    (tie.spec (λ c κs. tt) (λ c κs. tt) (λ c κs. tt) (λ c κs. tt) (λ c κs. tt) (λ c κs. tt)
+    (λ c. cc))

@@ -4,5 +4,5 @@ use Rattle.ports.proofs.service.reserve_at_port_answer.Tie as tie
 pub reserve-at-port-answer-spec : {M : Type 1} → statement M
 reserve-at-port-answer-spec =
     tie.close
-    (tie.spec (λ c κs. tt) (λ c κs. tt) (λ c κs. tt)
-    (λ c. rw (c .first3 .ensures, c .before .first2 .ensures, c .before .before .first .ensures)))
+    (tie.spec (λ c κs. tt) (λ c κs. tt) (λ c κs. tt) (λ c κs. tt)
+    (λ c. cc))
