@@ -24,11 +24,11 @@ KEYWORDS = {"if", "else", "while", "return", "match", "in", "let", "mut", "as"}
 
 
 class Body:
-    """A function's body, with what is known of types: the structs and the functions of all crates."""
+    """A function's body, with what is known of all crates: the structs, the functions, and what each constant is."""
 
-    def __init__(self, file, lines, function, structs, functions):
+    def __init__(self, file, lines, function, structs, functions, constants):
         self.file, self.lines, self.toks = file, lines, function.body
-        self.structs, self.functions = structs, functions
+        self.structs, self.functions, self.constants = structs, functions, constants
         self.types = dict(function.params)
         self.arms = [i for i, tok in enumerate(self.toks) if tok.kind == "number" and self.text(i + 1) == "=>"]
         self.read_lets()
@@ -39,6 +39,8 @@ class Body:
             yield from self.at_word(i, tok)
             if tok.kind == "number":
                 yield from self.other_numbers(i, tok)
+            elif tok.text in self.constants:
+                yield from self.beside(tok)
         for arm, other in zip(self.arms, self.arms[1:]):
             yield from self.next_arm(arm, other)
 
@@ -79,6 +81,13 @@ class Body:
         for new in numbers(tok):
             if new not in taken:
                 yield self.change(tok, tok.text, new, "constant")
+
+    def beside(self, tok):
+        """A constant's neighbours: n + 1 and n - 1 in the place of its name."""
+        value = self.constants[tok.text]
+        for other in (value + 1, value - 1):
+            if other >= 0:
+                yield self.change(tok, tok.text, str(other), "constant")
 
     def next_arm(self, arm, other):
         """An arm of a `match` that calls what the next arm calls."""

@@ -1,9 +1,9 @@
-"""What a Rattle file declares: its structs, and its functions with their parameters and the tokens of their bodies."""
+"""What a Rattle file declares: structs, constants, and functions with their parameters and the tokens of their bodies."""
 
 import re
 from dataclasses import dataclass, field
 
-from tokens import RATTLE, group_end, spelled, split, tokens
+from tokens import RATTLE, group_end, places, spelled, split, tokens
 
 # A clause is a statement about the code and not code: it is never changed.
 CLAUSES = {"requires", "ensures", "invariant", "measure", "reads"}
@@ -22,6 +22,7 @@ class Function:
 class Module:
     structs: dict = field(default_factory=dict)  # name: [(field, type)]
     functions: list = field(default_factory=list)
+    constants: dict = field(default_factory=dict)  # name: the tokens of its value
 
 
 def read(text):
@@ -39,12 +40,38 @@ def read(text):
             end = group_end(toks, i + 2)
             module.structs[toks[i + 1].text] = members(toks[i + 3 : end - 1])
             i = end
+        elif word == "const":
+            at, end = i + places(toks[i:], "=")[0], i + places(toks[i:], ";")[0]
+            module.constants[toks[i + 1].text] = toks[at + 1 : end]
+            i = end
         elif word == "fn":
             function, i = read_function(toks, i, owner)
             module.functions.append(function)
         else:
             i += 1
     return module
+
+
+def values(modules):
+    """What each constant is, of all crates: a number, or reckoned from others by `+`, `-` and `*`."""
+    left = {name: toks for module in modules for name, toks in module.constants.items()}
+    known = {}
+    while left:
+        ready = {name: toks for name, toks in left.items() if reckonable(toks, known)}
+        if not ready:
+            raise ValueError(f"constants of unknown value: {', '.join(sorted(left))}")
+        for name, toks in ready.items():
+            known[name] = eval(spelled(without_casts(toks)), {"__builtins__": {}}, known)
+            del left[name]
+    return known
+
+
+def without_casts(toks):
+    return [tok for i, tok in enumerate(toks) if tok.text != "as" and (i == 0 or toks[i - 1].text != "as")]
+
+
+def reckonable(toks, known):
+    return all(tok.kind == "number" or tok.text in known or tok.text in "+-*" for tok in without_casts(toks))
 
 
 def members(toks):

@@ -45,7 +45,7 @@ class Sources:
         return list(found.values())
 
     def code_mutants(self):
-        structs, functions = {}, {}
+        structs, functions, constants = {}, {}, rattle.values(self.code.values())
         for module in self.code.values():
             structs.update(module.structs)
             for function in module.functions:
@@ -54,7 +54,7 @@ class Sources:
         for file, module in self.code.items():
             lines = self.texts[file].split("\n")
             for function in module.functions:
-                yield from Body(file, lines, function, structs, functions).mutants()
+                yield from Body(file, lines, function, structs, functions, constants).mutants()
 
     def definition_mutants(self):
         records, types = {}, {}

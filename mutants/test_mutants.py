@@ -17,6 +17,8 @@ from sample import drawn, is_table  # noqa: E402
 
 CODE = """// A comment with 1 + 2.
 ghost use lib.Dec.{ltb};
+pub const BLOCKED: u8 = 3;
+const ROOM: usize = 2 * BLOCKED as usize + 1;
 pub struct Pod { pub here: u8, pub there: u8, pub open: bool }
 
 fn least(a: u8, b: u8) -> u8
@@ -29,7 +31,7 @@ pub fn told(p: Pod, m: &[u8; 9]) -> bool
     requires { ⌜ 1 ≤ 2 ⌝ }
 {
     let c = p;
-    p.open & (least(c.here, 0x0F) != 3) & !p.open
+    p.open & (least(c.here, 0x0F) != 3) & !p.open & (c.there == BLOCKED)
 }
 
 fn numbered(n: u32, p: Pod) -> u8 {
@@ -58,8 +60,9 @@ told p n = eqb (p .here) 3
 def code_mutants():
     module = rattle.read(CODE)
     functions = {function.name: function.params for function in module.functions}
+    constants = rattle.values([module])
     lines = CODE.split("\n")
-    bodies = [Body("crates/c/src/lib.rt", lines, f, module.structs, functions) for f in module.functions]
+    bodies = [Body("crates/c/src/lib.rt", lines, f, module.structs, functions, constants) for f in module.functions]
     return [m for body in bodies for m in body.mutants()]
 
 
@@ -75,13 +78,17 @@ class Changes(unittest.TestCase):
         self.assertEqual(
             {(m.line, m.old, m.new) for m in code_mutants()},
             {
-                (8, "<", "<="), (8, "a < b", "!(a < b)"),
-                (15, "p.open", "!p.open"), (15, "&", "|"), (15, "!=", "=="), (15, "!", ""), (15, "here", "there"),
-                (15, "c.here, 0x0F", "0x0F, c.here"), (15, "0x0F", "0x10"), (15, "0x0F", "0x0E"),
-                (15, "3", "4"), (15, "3", "2"),
-                (20, "1", "0"), (20, "opened", "closed"), (21, "2", "3"),
+                (10, "<", "<="), (10, "a < b", "!(a < b)"),
+                (17, "p.open", "!p.open"), (17, "&", "|"), (17, "!=", "=="), (17, "!", ""), (17, "here", "there"),
+                (17, "c.here, 0x0F", "0x0F, c.here"), (17, "0x0F", "0x10"), (17, "0x0F", "0x0E"),
+                (17, "3", "4"), (17, "3", "2"), (17, "there", "here"), (17, "==", "!="),
+                (17, "BLOCKED", "4"), (17, "BLOCKED", "2"),
+                (22, "1", "0"), (22, "opened", "closed"), (23, "2", "3"),
             },
         )
+
+    def test_a_constant_is_reckoned(self):
+        self.assertEqual(rattle.values([rattle.read(CODE)]), {"BLOCKED": 3, "ROOM": 7})
 
     def test_definitions(self):
         self.assertEqual(
@@ -100,7 +107,7 @@ class Changes(unittest.TestCase):
 
     def test_a_moved_text_is_not_changed(self):
         with self.assertRaises(ValueError):
-            Mutant("crates/c/src/lib.rt", 8, 1, "<", "<=", "comparison").changed(CODE)
+            Mutant("crates/c/src/lib.rt", 10, 1, "<", "<=", "comparison").changed(CODE)
 
     def test_the_order_is_the_seeds(self):
         orders = [[m.key for m in drawn(code_mutants(), seed)] for seed in ("1", "1", "2")]
