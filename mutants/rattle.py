@@ -1,4 +1,4 @@
-"""What a Rattle file declares: structs, constants, and functions with their parameters and the tokens of their bodies."""
+"""What a Rattle file declares: structs, constants, and functions with their parameters and their bodies' tokens."""
 
 import re
 from dataclasses import dataclass, field

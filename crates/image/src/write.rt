@@ -4,6 +4,7 @@ ghost use Prim.Native.Nat.{_≤_, _+_};
 ghost use lib.ListN.{length, replicate};
 ghost use lib.Seq.{sets};
 ghost use Rattle.image.specs.Image.{table, portBytes, carrierBytes, movedUp};
+use crate::layout::*;
 use records::carrier::Carrier;
 use records::port::Port;
 
@@ -32,44 +33,44 @@ pub fn clear(m: &mut [u8])
     }
 }
 
-fn port_bytes(q: Port) -> [u8; 22]
+fn port_bytes(q: Port) -> [u8; PORT_BYTES]
     ensures { λ r. ⌜ r ≡ portBytes q ⌝ }
 {
     let tie = q.tie;
     let name = tie.bytes;
-    let mut b = [0; 22];
-    b[0] = q.transfer;
-    b[1] = q.access;
-    b[2] = q.reserved;
-    put(&mut b, 3, &name);
-    b[19] = q.movement;
-    b[20] = q.pod;
-    b[21] = q.tag;
+    let mut b = [0; PORT_BYTES];
+    b[TRANSFER_OFFSET] = q.transfer;
+    b[ACCESS_OFFSET] = q.access;
+    b[RESERVED_OFFSET] = q.reserved;
+    put(&mut b, TIE_OFFSET, &name);
+    b[MOVEMENT_OFFSET] = q.movement;
+    b[POD_OFFSET] = q.pod;
+    b[TAG_OFFSET] = q.tag;
     b
 }
 
-fn carrier_bytes(c: Carrier) -> [u8; 50]
+fn carrier_bytes(c: Carrier) -> [u8; CARRIER_BYTES]
     ensures { λ r. ⌜ r ≡ carrierBytes c ⌝ }
 {
     let called = c.name;
     let name = called.bytes;
     let map = c.map;
-    let mut b = [0; 50];
-    put(&mut b, 0, &name);
-    put(&mut b, 22, &map);
-    b[16] = c.place;
-    b[17] = c.spot;
-    b[18] = c.port;
-    b[19] = c.opened;
-    b[20] = c.cancelled;
-    b[21] = c.cameout;
-    b[47] = c.id;
-    b[48] = c.slot;
-    b[49] = c.accessing;
+    let mut b = [0; CARRIER_BYTES];
+    put(&mut b, NAME_OFFSET, &name);
+    put(&mut b, MAP_OFFSET, &map);
+    b[PLACE_OFFSET] = c.place;
+    b[SPOT_OFFSET] = c.spot;
+    b[PORT_OFFSET] = c.port;
+    b[OPENED_OFFSET] = c.opened;
+    b[CANCELLED_OFFSET] = c.cancelled;
+    b[CAMEOUT_OFFSET] = c.cameout;
+    b[ID_OFFSET] = c.id;
+    b[SLOT_OFFSET] = c.slot;
+    b[ACCESSING_OFFSET] = c.accessing;
     b
 }
 
-pub fn put_port(m: &mut [u8; 1891], o: usize, q: Port)
+pub fn put_port(m: &mut [u8; TOOL_BYTES], o: usize, q: Port)
     requires { ⌜ o + 22 ≤ 1891 ⌝ }
     ensures { λ _. ⌜ now (m .exit) ≡ sets (now (m .entry)) o (portBytes q) ⌝ }
     ensures { λ _. ⌜ length (now (m .entry)) ≡ 1891 ⌝ }
@@ -78,7 +79,7 @@ pub fn put_port(m: &mut [u8; 1891], o: usize, q: Port)
     put(m, o, &b);
 }
 
-pub fn put_carrier(m: &mut [u8; 1891], o: usize, c: Carrier)
+pub fn put_carrier(m: &mut [u8; TOOL_BYTES], o: usize, c: Carrier)
     requires { ⌜ o + 50 ≤ 1891 ⌝ }
     ensures { λ _. ⌜ now (m .exit) ≡ sets (now (m .entry)) o (carrierBytes c) ⌝ }
     ensures { λ _. ⌜ length (now (m .entry)) ≡ 1891 ⌝ }
@@ -87,15 +88,15 @@ pub fn put_carrier(m: &mut [u8; 1891], o: usize, c: Carrier)
     put(m, o, &b);
 }
 
-// The bytes from o + 50 on move up by 50, over a record that goes; the last 50 stay.
+// The bytes after the record at o move up over it; the last record's stay.
 pub fn move_up(m: &mut [u8], o: usize)
     requires { ⌜ length (now m) ≡ 1891 ⌝ }
     requires { ⌜ o ≤ 1841 ⌝ }
     ensures { λ _. ⌜ now (m .exit) ≡ table 1891 (movedUp (now (m .entry)) o 1841) ⌝ }
 {
     let mut j = o;
-    while j < 1841 {
-        let b = m[j + 50];
+    while j < LAST_RECORD_START {
+        let b = m[j + CARRIER_BYTES];
         m[j] = b;
         j += 1;
     }

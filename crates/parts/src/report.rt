@@ -3,6 +3,7 @@ ghost use mathlib.Core.Path.{_≡_};
 ghost use Rattle.rules.specs.Reports.{noReports, reportIf, tieNumber};
 ghost use Rattle.image.specs.Image.{reportsFrom};
 ghost use Rattle.parts.specs.Told.{noted, noteAll, portTouched, recordTouched, touched};
+use image::layout::*;
 use image::report::no_reports;
 use image::report::put_report;
 use image::report::reported;
@@ -10,21 +11,22 @@ use records::carrier::Carrier;
 use records::choose::wide;
 use records::name::Name;
 use records::port::Port;
+use records::words::*;
 use rules::report::Report;
 use rules::row::Effect;
 
 // One report more, in the next entry; past the seventh nothing is kept.
-fn noted(o: &mut [u8; 141], r: Report)
+fn noted(o: &mut [u8; REPORTS_BYTES], r: Report)
     ensures { λ _. ⌜ reportsFrom (now (o .exit)) ≡ noted (reportsFrom (now (o .entry))) r ⌝ }
 {
     let k = reported(o);
-    if k < 7 {
+    if k < REPORTED_MOST {
         put_report(o, wide(k), r);
-        o[0] = k + 1;
+        o[REPORTED_OFFSET] = k + 1;
     }
 }
 
-fn note_if(o: &mut [u8; 141], b: bool, model: u8, port: u8, name: Name, old: u8, new: u8)
+fn note_if(o: &mut [u8; REPORTS_BYTES], b: bool, model: u8, port: u8, name: Name, old: u8, new: u8)
     ensures { λ _. ⌜ reportsFrom (now (o .exit)) ≡ noteAll (reportsFrom (now (o .entry))) (reportIf b model port name old new) ⌝ }
 {
     if b {
@@ -42,11 +44,11 @@ fn note_if(o: &mut [u8; 141], b: bool, model: u8, port: u8, name: Name, old: u8,
 fn tie_number(n: Name) -> u8
     ensures { λ r. ⌜ r ≡ tieNumber n ⌝ }
 {
-    if n.same(Name::none()) { 0 } else { 1 }
+    if n.same(Name::none()) { NOT_TIED } else { TIED }
 }
 
 // Models 1 to 4.
-fn port_reports(o: &mut [u8; 141], p: u8, x: Port, q: Port)
+fn port_reports(o: &mut [u8; REPORTS_BYTES], p: u8, x: Port, q: Port)
     ensures { λ _. ⌜ reportsFrom (now (o .exit)) ≡ noteAll (reportsFrom (now (o .entry))) (portTouched p x q) ⌝ }
 {
     let z = Name::none();
@@ -60,15 +62,23 @@ fn port_reports(o: &mut [u8; 141], p: u8, x: Port, q: Port)
 }
 
 // One of the models 5 to 7: the record that goes, then the one that changes or is new.
-fn record_reports(o: &mut [u8; 141], model: u8, gone: Name, lost: u8, name: Name, old: u8, new: u8)
+fn record_reports(
+    o: &mut [u8; REPORTS_BYTES],
+    model: u8,
+    gone: Name,
+    lost: u8,
+    name: Name,
+    old: u8,
+    new: u8,
+)
     ensures { λ _. ⌜ reportsFrom (now (o .exit)) ≡ noteAll (reportsFrom (now (o .entry))) (recordTouched model gone lost name old new) ⌝ }
 {
-    note_if(o, lost != 0, model, 0, gone, lost, 0);
-    note_if(o, old != new, model, 0, name, old, new);
+    note_if(o, lost != NO_STATE, model, NO_PORT, gone, lost, NO_STATE);
+    note_if(o, old != new, model, NO_PORT, name, old, new);
 }
 
 // The port x as it was, the record g that goes, and the record w that changes, as it was.
-pub fn told(o: &mut [u8; 141], e: Effect, x: Port, g: Carrier, w: Carrier)
+pub fn told(o: &mut [u8; REPORTS_BYTES], e: Effect, x: Port, g: Carrier, w: Carrier)
     ensures { λ _. ⌜ reportsFrom (now (o .exit)) ≡ noteAll noReports (touched x g w e) ⌝ }
 {
     let c = e.next;

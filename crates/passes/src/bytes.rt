@@ -5,9 +5,11 @@ ghost use Rattle.lists.specs.Lists.{every};
 ghost use Rattle.records.specs.Names.{sameName};
 ghost use Rattle.image.specs.Image.{bytesFrom, nameFrom};
 ghost use Rattle.passes.specs.Passes.{isZero};
+use image::layout::TOOL_BYTES;
+use records::sizes::NAME_BYTES;
 
 // n bytes from o on are zero.
-pub fn zeros(m: &[u8; 1891], o: usize, n: usize) -> bool
+pub fn zeros(m: &[u8; TOOL_BYTES], o: usize, n: usize) -> bool
     requires { ⌜ o + n ≤ 1891 ⌝ }
     ensures { λ r. ⌜ r ≡ every isZero (bytesFrom (now (m .entry)) o n) ⌝ }
 {
@@ -21,14 +23,14 @@ pub fn zeros(m: &[u8; 1891], o: usize, n: usize) -> bool
 }
 
 // The names at o and p are the same.
-pub fn same(m: &[u8; 1891], o: usize, p: usize) -> bool
+pub fn same(m: &[u8; TOOL_BYTES], o: usize, p: usize) -> bool
     requires { ⌜ o + 16 ≤ 1891 ⌝ }
     requires { ⌜ p + 16 ≤ 1891 ⌝ }
     ensures { λ r. ⌜ r ≡ sameName (nameFrom (now (m .entry)) o) (nameFrom (now (m .entry)) p) ⌝ }
 {
     let mut ok = true;
     let mut i = 0;
-    while i < 16 {
+    while i < NAME_BYTES {
         ok = (m[o + i] == m[p + i]) & ok;
         i += 1;
     }

@@ -7,6 +7,14 @@ ghost use lib.ListN.{length, getD};
 ghost use Rattle.lists.specs.Lists.{every, between};
 ghost use Rattle.image.specs.Image.{table, byteAt};
 ghost use Rattle.passes.specs.Passes.{recordOn, itself, nameLane, namedBy, fieldsFit};
+use image::layout::*;
+use records::sizes::*;
+use records::words::*;
+
+// A carrier's fields after place and spot: how many bytes, and where the first record's begin.
+const FIELDS: usize = CARRIER_BYTES - PORT_OFFSET;
+
+const FIELDS_START: usize = RECORDS_START + PORT_OFFSET;
 
 fn all(good: &[bool]) -> bool
     ensures { λ r. ⌜ r ≡ every itself (now (good .entry)) ⌝ }
@@ -21,7 +29,13 @@ fn all(good: &[bool]) -> bool
 }
 
 // The name at o.
-fn name_lanes(good: &mut [bool], m: &[u8; 1891], o: usize, first: &[u8; 16], last: &[u8; 16])
+fn name_lanes(
+    good: &mut [bool],
+    m: &[u8; TOOL_BYTES],
+    o: usize,
+    first: &[u8; NAME_BYTES],
+    last: &[u8; NAME_BYTES],
+)
     requires { ⌜ length (now good) ≡ 16 ⌝ }
     requires { ⌜ o + 17 ≤ 1891 ⌝ }
     ensures { λ _. ⌜ now (good .exit) ≡ table 16 (λ i. getD (now (good .entry)) i false
@@ -29,24 +43,31 @@ fn name_lanes(good: &mut [bool], m: &[u8; 1891], o: usize, first: &[u8; 16], las
         (byteAt (now (m .entry)) (o + i + 1))) ⌝ }
 {
     let mut i = 0;
-    while i < 16 {
+    while i < NAME_BYTES {
         let b = m[o + i];
         let next = m[o + i + 1];
         let ends = (b == 0) & ((last[i] == 1) | (next == 0));
-        good[i] = good[i] & ((ends | ((0x21 <= b) & (b <= 0x7E))) & (first[i] <= b));
+        good[i] = good[i]
+            & ((ends | ((NAME_BYTE_LEAST <= b) & (b <= NAME_BYTE_GREATEST))) & (first[i] <= b));
         i += 1;
     }
 }
 
 // The fields from o on.
-fn field_lanes(good: &mut [bool], m: &[u8; 1891], o: usize, least: &[u8; 32], most: &[u8; 32])
+fn field_lanes(
+    good: &mut [bool],
+    m: &[u8; TOOL_BYTES],
+    o: usize,
+    least: &[u8; FIELDS],
+    most: &[u8; FIELDS],
+)
     requires { ⌜ length (now good) ≡ 32 ⌝ }
     requires { ⌜ o + 32 ≤ 1891 ⌝ }
     ensures { λ _. ⌜ now (good .exit) ≡ table 32 (λ i. getD (now (good .entry)) i false
         && between (getD (now (least .entry)) i 0) (byteAt (now (m .entry)) (o + i)) (getD (now (most .entry)) i 0)) ⌝ }
 {
     let mut i = 0;
-    while i < 32 {
+    while i < FIELDS {
         let b = m[o + i];
         good[i] = good[i] & ((least[i] <= b) & (b <= most[i]));
         i += 1;
@@ -54,45 +75,57 @@ fn field_lanes(good: &mut [bool], m: &[u8; 1891], o: usize, least: &[u8; 32], mo
 }
 
 // The first n records hold names.
-pub fn named(m: &[u8; 1891], n: usize) -> bool
+pub fn named(m: &[u8; TOOL_BYTES], n: usize) -> bool
     requires { ⌜ n ≤ 36 ⌝ }
     ensures { λ r. ⌜ r ≡ every namedBy (table n (recordOn (now (m .entry)))) ⌝ }
 {
-    let mut first = [0u8; 16];
-    let mut last = [0u8; 16];
+    let mut first = [0u8; NAME_BYTES];
+    let mut last = [0u8; NAME_BYTES];
     first[0] = 1;
     last[15] = 1;
-    let mut good = [true; 16];
+    let mut good = [true; NAME_BYTES];
     let mut k = 0;
     while k < n {
-        name_lanes(&mut good, m, 91 + 50 * k, &first, &last);
+        name_lanes(
+            &mut good,
+            m,
+            RECORDS_START + CARRIER_BYTES * k,
+            &first,
+            &last,
+        );
         k += 1;
     }
     all(&good)
 }
 
 // Their fields after place and spot are in range.
-pub fn fields(m: &[u8; 1891], n: usize) -> bool
+pub fn fields(m: &[u8; TOOL_BYTES], n: usize) -> bool
     requires { ⌜ n ≤ 36 ⌝ }
     ensures { λ r. ⌜ r ≡ every fieldsFit (table n (recordOn (now (m .entry)))) ⌝ }
 {
     // port; opened, cancelled and came-out; 25 codes; three statuses
-    let mut least = [0u8; 32];
-    let mut most = [5u8; 32];
-    most[0] = 4;
-    most[1] = 1;
-    most[2] = 1;
-    most[3] = 1;
-    least[29] = 1;
-    least[30] = 1;
-    least[31] = 1;
-    most[29] = 4;
-    most[30] = 4;
-    most[31] = 4;
-    let mut good = [true; 32];
+    let mut least = [0u8; FIELDS];
+    let mut most = [CODE_GREATEST; FIELDS];
+    most[0] = USED_MOST;
+    most[1] = OPEN;
+    most[2] = ON;
+    most[3] = ON;
+    least[29] = NOT_READ;
+    least[30] = NOT_READ;
+    least[31] = NOT_ACCESSED;
+    most[29] = FAILED;
+    most[30] = FAILED;
+    most[31] = STOPPED;
+    let mut good = [true; FIELDS];
     let mut k = 0;
     while k < n {
-        field_lanes(&mut good, m, 109 + 50 * k, &least, &most);
+        field_lanes(
+            &mut good,
+            m,
+            FIELDS_START + CARRIER_BYTES * k,
+            &least,
+            &most,
+        );
         k += 1;
     }
     all(&good)

@@ -1,6 +1,6 @@
-// Document 01's words for its numbers. Its rows give an answer by its number, and so does the code: 0 accepted, 1 out of range,
-// 2 no record, 3 the name is taken, 4 reserved or tied, 5 the conditions on state don't hold, 6 too many are expected,
-// 7 not verified, 8 the place is taken or the opener in use.
+// Document 01's words for the numbers of states. Answers and the models of reports are numbers in its rows, and so in the code:
+// 1 out of range, 2 no record, 3 the name is taken, 4 reserved or tied, 5 conditions on state, 6 too many are expected,
+// 7 not verified, 8 the place or the opener is taken; 1 transfer, 2 access, 3 reservation, 4 tie, 5 ID, 6 slot, 7 accessing.
 
 // a port's transfer; BLOCKED is TRANSFER BLOCKED
 pub const OUT_OF_SERVICE: u8 = 0;
@@ -19,6 +19,11 @@ pub const AUTO: u8 = 1;
 pub const NOT_RESERVED: u8 = 0;
 
 pub const RESERVED: u8 = 1;
+
+// its tie, as it is reported
+pub const NOT_TIED: u8 = 0;
+
+pub const TIED: u8 = 1;
 
 // its movement: IDLE is none
 pub const IDLE: u8 = 0;
@@ -58,7 +63,9 @@ pub const OFF: u8 = 0;
 
 pub const ON: u8 = 1;
 
-// its ID status and its slot status; WAITING is WAITING FOR HOST
+// its ID status and its slot status, WAITING being WAITING FOR HOST; where there is no record, NO_STATE
+pub const NO_STATE: u8 = 0;
+
 pub const NOT_READ: u8 = 1;
 
 pub const WAITING: u8 = 2;

@@ -1,6 +1,7 @@
 // What an input answers.
 use crate::tool::Tool;
 use records::name::Name;
+use records::sizes::REPORTS;
 
 // The subject is a port in models 1 to 4 and a name in models 5 to 7; the other is zero.
 #[repr(C)]
@@ -15,7 +16,7 @@ pub struct Report {
 #[repr(C)]
 pub struct Reports {
     pub count: u8,
-    pub items: [Report; 7],
+    pub items: [Report; REPORTS],
 }
 
 #[repr(C)]

@@ -2,6 +2,7 @@
 use records::carrier::Carrier;
 use records::name::Name;
 use records::port::Port;
+use records::sizes::SLOTS;
 
 pub struct Seen {
     // how many buffer places and records the tool has
@@ -16,7 +17,7 @@ pub struct Seen {
     pub name: Name,
     pub named: bool,
     pub blank: bool,
-    pub map: [u8; 25],
+    pub map: [u8; SLOTS],
     pub mapped: bool,
     // the port given
     pub here: Port,

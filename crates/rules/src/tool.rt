@@ -1,6 +1,8 @@
 // A tool: its ports, its buffer places, its carrier records in the order they were made.
 use records::carrier::Carrier;
 use records::port::Port;
+use records::sizes::PORTS;
+use records::sizes::RECORDS;
 
 // used: how many ports; places: how many buffer places; count: how many records. Past these all is zero.
 #[repr(C)]
@@ -8,8 +10,8 @@ pub struct Tool {
     pub used: u8,
     pub places: u8,
     pub count: u8,
-    pub ports: [Port; 4],
-    pub carriers: [Carrier; 36],
+    pub ports: [Port; PORTS],
+    pub carriers: [Carrier; RECORDS],
 }
 
 // What set-up gives.

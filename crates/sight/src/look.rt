@@ -6,6 +6,7 @@ ghost use Rattle.rules.specs.Held.{Held};
 ghost use Rattle.rules.specs.Seen.{inputOf, narrow, see};
 ghost use Rattle.image.specs.Image.{toolFrom};
 ghost use Rattle.sight.specs.Pass.{gathered, foundIn};
+use image::layout::*;
 use image::read::carrier_from;
 use image::read::count;
 use image::read::places;
@@ -21,6 +22,8 @@ use records::map::is_map;
 use records::name::Name;
 use records::name::in_bytes;
 use records::name::is_name;
+use records::sizes::EXPECTED_MOST;
+use records::words::*;
 use rules::row::Seen;
 
 // What the records passed so far show: where the name's record stands and that of the carrier tied to the port, how many
@@ -54,9 +57,9 @@ fn gather(p: Passed, c: Carrier, name: Name, port: u8, value: u8, k: usize) -> P
 {
     let stands = either(c.name.same(name), k, p.stands);
     let holds = either((1 <= port) & (c.port == port), k, p.holds);
-    let expected = one_if(c.place == 0) + p.expected;
-    let taken = ((c.place == 2) & (c.spot == value)) | p.taken;
-    let busy = (c.opened == 1) | p.busy;
+    let expected = one_if(c.place == EXPECTED) + p.expected;
+    let taken = ((c.place == IN_BUFFER) & (c.spot == value)) | p.taken;
+    let busy = (c.opened == OPEN) | p.busy;
     Passed {
         stands,
         holds,
@@ -67,7 +70,7 @@ fn gather(p: Passed, c: Carrier, name: Name, port: u8, value: u8, k: usize) -> P
 }
 
 // The one loop over the records.
-fn pass(m: &[u8; 1891], name: Name, port: u8, value: u8) -> Found
+fn pass(m: &[u8; TOOL_BYTES], name: Name, port: u8, value: u8) -> Found
     requires { ⌜ toolFrom (now m) .count ≤ 36 ⌝ }
     ensures { λ r. ⌜ r ≡ foundIn (toolFrom (now (m .entry))) name port value ⌝ }
 {
@@ -82,7 +85,7 @@ fn pass(m: &[u8; 1891], name: Name, port: u8, value: u8) -> Found
     let mut k = n;
     while 0 < k {
         k -= 1;
-        let c = carrier_from(m, 91 + 50 * k);
+        let c = carrier_from(m, RECORDS_START + CARRIER_BYTES * k);
         p = gather(p, c, name, port, value, k);
     }
     let found = record_at(m, p.stands);
@@ -94,7 +97,7 @@ fn pass(m: &[u8; 1891], name: Name, port: u8, value: u8) -> Found
     }
 }
 
-pub fn look(m: &[u8; 1891], port: u32, value: u32, name: &[u8], codes: &[u8]) -> Seen
+pub fn look(m: &[u8; TOOL_BYTES], port: u32, value: u32, name: &[u8], codes: &[u8]) -> Seen
     requires { ⌜ Held (toolFrom (now m)) ⌝ }
     ensures { λ r. ⌜ r ≡ see (stateOf (toolFrom (now (m .entry)))) (inputOf 0 port value (now (name .entry)) (now (codes .entry))) ⌝ }
 {
@@ -112,7 +115,7 @@ pub fn look(m: &[u8; 1891], port: u32, value: u32, name: &[u8], codes: &[u8]) ->
         count: n,
         port,
         isport: (1 <= port) & (port <= used(m)),
-        noport: port == 0,
+        noport: port == NO_PORT,
         value,
         name: text,
         named: is_name(name),
@@ -127,7 +130,7 @@ pub fn look(m: &[u8; 1891], port: u32, value: u32, name: &[u8], codes: &[u8]) ->
         holds: p.holds,
         tied: p.holds < n,
         held,
-        full: 16 <= p.expected,
+        full: EXPECTED_MOST <= p.expected,
         taken: p.taken,
         busy: p.busy,
     }
