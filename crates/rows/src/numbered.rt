@@ -56,6 +56,7 @@ use ports::transfer::unload_fail_effect;
 use ports::transfer::unload_start_answer;
 use ports::transfer::unload_start_effect;
 use records::port::Port;
+use records::words::NO_PORT;
 use rules::row::Effect;
 use rules::row::Seen;
 
@@ -125,6 +126,6 @@ pub fn effect_of(number: u32, x: Seen) -> Effect
         24 => unload_start_effect(x),
         25 => unload_done_effect(x),
         26 => unload_fail_effect(x),
-        _ => on_port(x.count, 0, Port::none()),
+        _ => on_port(x.count, NO_PORT, Port::none()),
     }
 }
