@@ -5,6 +5,7 @@ ghost use Rattle.rules.specs.Seen.{inputOf};
 ghost use Rattle.rules.specs.Sound.{soundTool};
 ghost use Rattle.rules.specs.Outcome.{outcomeIn, outcome};
 ghost use Rattle.image.specs.Image.{toolFrom, reportsFrom};
+use image::layout::*;
 use image::read::port_at;
 use image::read::record_at;
 use image::report::no_reports;
@@ -17,8 +18,8 @@ use soundness::whole::sound;
 
 // For a layer above that has tested soundness itself: it is most of the time that a step takes.
 pub fn step_sound(
-    m: &mut [u8; 1891],
-    o: &mut [u8; 141],
+    m: &mut [u8; TOOL_BYTES],
+    o: &mut [u8; REPORTS_BYTES],
     number: u32,
     port: u32,
     value: u32,
@@ -50,8 +51,8 @@ pub fn step_sound(
 
 // Any input to any tool: the answer, the tool that follows, and the reports.
 pub fn step(
-    m: &mut [u8; 1891],
-    o: &mut [u8; 141],
+    m: &mut [u8; TOOL_BYTES],
+    o: &mut [u8; REPORTS_BYTES],
     number: u32,
     port: u32,
     value: u32,

@@ -107,16 +107,49 @@ returns c =
 
 pub seats-spec : {M : Type 1} → statement M
 seats-spec =
+    let mul-index : tie.Need-mul-index Inv-loop μ-loop = λ c. omega arith in
+    let add-index : tie.Need-add-index Inv-loop μ-loop = λ c. omega arith in
+    let add-index-2 : tie.Need-add-index-2 Inv-loop μ-loop = λ c. omega arith in
+    let element-copy-out-index : tie.Need-element-copy-out-index Inv-loop μ-loop = λ c. omega arith in
+    let index-requires : tie.Need-index-requires Inv-loop μ-loop = λ c κs. tt in
+    let mul-index-2 : tie.Need-mul-index-2 Inv-loop μ-loop = λ c. omega arith in
+    let add-index-3 : tie.Need-add-index-3 Inv-loop μ-loop = λ c. omega arith in
+    let add-index-4 : tie.Need-add-index-4 Inv-loop μ-loop = λ c. omega arith in
+    let element-copy-out-index-2 : tie.Need-element-copy-out-index-2 Inv-loop μ-loop = λ c. omega arith in
+    let index-requires-2 : tie.Need-index-requires-2 Inv-loop μ-loop = λ c κs. tt in
+    let seat-requires : tie.Need-seat-requires Inv-loop μ-loop = λ c κs. omega arith in
+    let array-read-apart : tie.Need-array-read-apart Inv-loop μ-loop = λ c. search needs in
+    let array-read-alone : tie.Need-array-read-alone Inv-loop μ-loop = λ c. search needs in
+    let mul-one-if : tie.Need-mul-one-if Inv-loop μ-loop = λ c. omega arith in
+    let add-one-if : tie.Need-add-one-if Inv-loop μ-loop = λ c. omega arith in
+    let add-one-if-2 : tie.Need-add-one-if-2 Inv-loop μ-loop = λ c. omega arith in
+    let element-copy-out-one-if : tie.Need-element-copy-out-one-if Inv-loop μ-loop = λ c. omega arith in
+    let one-if-requires : tie.Need-one-if-requires Inv-loop μ-loop = λ c κs. tt in
+    let add-expected : tie.Need-add-expected Inv-loop μ-loop = λ c. omega arith in
+    let add-k : tie.Need-add-k Inv-loop μ-loop = λ c. omega arith in
+    let cast-spots : tie.Need-cast-spots Inv-loop μ-loop = λ c. omega arith in
+    let array-write-spots : tie.Need-array-write-spots Inv-loop μ-loop = λ c. search needs in
+    let cast-ports : tie.Need-cast-ports Inv-loop μ-loop = λ c. omega arith in
+    let array-write-ports : tie.Need-array-write-ports Inv-loop μ-loop = λ c. search needs in
+    let loop-less : tie.Need-loop-less Inv-loop μ-loop = λ c. omega arith in
+    let array-read-tie : tie.Need-array-read-tie Inv-loop μ-loop = λ c. search needs in
+    let tie-requires : tie.Need-tie-requires Inv-loop μ-loop = λ c κs. (omega arith, few c 1 (omega arith)) in
+    let array-read-tie-2 : tie.Need-array-read-tie-2 Inv-loop μ-loop = λ c. search needs in
+    let tie-requires-2 : tie.Need-tie-requires-2 Inv-loop μ-loop = λ c κs. (omega arith, few (c .before) 2 (omega arith)) in
+    let array-read-tie-3 : tie.Need-array-read-tie-3 Inv-loop μ-loop = λ c. search needs in
+    let tie-requires-3 : tie.Need-tie-requires-3 Inv-loop μ-loop = λ c κs. (omega arith, few (c .before .before) 3 (omega arith)) in
+    let array-read-tie-4 : tie.Need-array-read-tie-4 Inv-loop μ-loop = λ c. search needs in
+    let tie-requires-4 : tie.Need-tie-requires-4 Inv-loop μ-loop = λ c κs. (omega arith, few (c .before .before .before) 4 (omega arith)) in
     tie.close
     (tie.spec Inv-loop μ-loop loop-holds
-    (λ c. omega arith) (λ c. omega arith) (λ c. omega arith) (λ c. omega arith) (λ c κs. tt)
-    (λ c. omega arith) (λ c. omega arith) (λ c. omega arith) (λ c. omega arith) (λ c κs. tt)
-    (λ c κs. omega arith) (λ c. search needs) (λ c. search needs)
-    (λ c. omega arith) (λ c. omega arith) (λ c. omega arith) (λ c. omega arith) (λ c κs. tt)
-    (λ c. omega arith) (λ c. omega arith) (λ c. omega arith) (λ c. search needs) (λ c. omega arith) (λ c. search needs) (λ c. omega arith)
+    mul-index add-index add-index-2 element-copy-out-index index-requires
+    mul-index-2 add-index-3 add-index-4 element-copy-out-index-2 index-requires-2
+    seat-requires array-read-apart array-read-alone
+    mul-one-if add-one-if add-one-if-2 element-copy-out-one-if one-if-requires add-expected
+    add-k cast-spots array-write-spots cast-ports array-write-ports loop-less
     loop-again
-    (λ c. search needs) (λ c κs. (omega arith, few c 1 (omega arith)))
-    (λ c. search needs) (λ c κs. (omega arith, few (c .before) 2 (omega arith)))
-    (λ c. search needs) (λ c κs. (omega arith, few (c .before .before) 3 (omega arith)))
-    (λ c. search needs) (λ c κs. (omega arith, few (c .before .before .before) 4 (omega arith)))
+    array-read-tie tie-requires
+    array-read-tie-2 tie-requires-2
+    array-read-tie-3 tie-requires-3
+    array-read-tie-4 tie-requires-4
     returns)
