@@ -65,7 +65,8 @@ rows-asked n x y f g =
     (one-of (eqb n 15) (all (λ e. cc)) (one-of (eqb n 16) (id-read-asked x y f g) (one-of (eqb n 17) (all (λ e. cc))
     (one-of (eqb n 18) (all (λ e. cc)) (one-of (eqb n 19) (open-asked x y) (one-of (eqb n 20) (all (λ e. cc))
     (one-of (eqb n 21) (all (λ e. cc)) (one-of (eqb n 22) (all (λ e. cc)) (one-of (eqb n 23) (all (λ e. cc))
-    (one-of (eqb n 24) (all (λ e. cc)) (one-of (eqb n 25) (all (λ e. cc)) (one-of (eqb n 26) (all (λ e. cc)) (all (λ e. refl)))))))))))))))))))))))))))
+    (one-of (eqb n 24) (all (λ e. cc)) (one-of (eqb n 25) (all (λ e. cc))
+    (one-of (eqb n 26) (all (λ e. cc)) (all (λ e. refl)))))))))))))))))))))))))))
 
 pub all-asked : (n : ℕ) (s t : State) (i j : Input) → asks n (see s i) ≡ asks n (see t j)
     → judge (rowOf n (see s i) .grounds) ≡ judge (rowOf n (see t j) .grounds)
