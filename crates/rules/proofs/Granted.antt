@@ -182,8 +182,8 @@ granted P B a b c past = record {
         openNotCancelled = t .openOk;
         accessOpen = v .lid .access;
         openStands = λ z. stands (portOf s (recordOf s k .port)) (recordOf s k) (ℕ-discrete _ 2) (o (opened _ _ (v .lid .access) z));
-        openInside = λ z m. inside (recordOf s k) (ℕ-discrete _ 2) (λ y. let q = v .lid .bare z (eq-eqb _ 1 (o z y .0)) in omega arith);
-        openOutside = λ z m. eq-eqb _ 1 (o z (λ y. let q = r .inSpot y in omega arith) .0);
+        openInBuffer = λ z m. inside (recordOf s k) (ℕ-discrete _ 2) (λ y. let q = v .lid .bare z (eq-eqb _ 1 (o z y .0)) in omega arith);
+        openAtPort = λ z m. eq-eqb _ 1 (o z (λ y. let q = r .inSpot y in omega arith) .0);
         slotMapped = slot-mapped P B sounds past k l _ refl _ refl;
         outAtPort = λ z. and-i (v .berth .out z .0) (v .berth .out z .1);
         podThere = λ z. let m = v .berth .marked z in and-i (m .0) (ap not (m .1));

@@ -32,11 +32,11 @@ module _ {q r : Port} (pod : r .pod ≡ q .pod) (tag : r .tag ≡ q .tag) where
   pub calm : r .transfer ≡ q .transfer → r .movement ≡ q .movement → Steady q r
   calm t m = record { marked = λ z. rw (pod, tag) z; out = λ z. rw (t, m) z }
 
-  -- the port gives out then
+  -- the port gives out after it
   pub gives-out : outbound r ≡ true → Steady q r
   gives-out o = record { marked = λ z. rw (pod, tag) z; out = λ _. o }
 
-  -- it didn't give out
+  -- it didn't give out, so that nothing there came out of the buffer
   pub takes-in : outbound q ≡ false → Steady q r
   takes-in o = record { marked = λ z. rw (pod, tag) z; out = λ z. clash z o }
 
@@ -134,6 +134,10 @@ module _ {s : State} {i : Input} (r : Ready s i) where
       go true z = e ∙ ap (λ j. hasPod (portOf s j)) (sym (eqb-true p k z))
       go false z = refl
 
+  pub pod-here : (q : Port) → hasPod q ≡ hasPod (x .here) → (p : ℕ) → hasPod (cond (eqb p (x .port)) q (portOf s p)) ≡ hasPod (portOf s p)
+  unfolding see
+  pod-here q e = pod-same (x .port) q e
+
   -- the input brings a pod to the port that it names, or takes it
   pub pod-moves : (n : ℕ) (v : Bool) (q : Port) → ((w : Bool) → podAfter n true true w ≡ v) → ((w : Bool) → podAfter n true false w ≡ w)
       → hasPod q ≡ v → x .isport ≡ true → Pods n (x .port) q
@@ -162,10 +166,6 @@ module _ {s : State} {i : Input} (r : Ready s i) where
   pub at-port : (n : ℕ) {q : Port} → Steady (x .here) q → Pods n (x .port) q → Lawful s i n (onPort (x .count) (x .port) q)
   unfolding see
   at-port n t d = port-law n (x .port) (x .count) (λ _ _ _ _ _. t) d
-
-  pub pod-here : (q : Port) → hasPod q ≡ hasPod (x .here) → (p : ℕ) → hasPod (cond (eqb p (x .port)) q (portOf s p)) ≡ hasPod (portOf s p)
-  unfolding see
-  pod-here q e = pod-same (x .port) q e
 
   -- the named record changes, and no port
   pub in-place : (n : ℕ) {c : Carrier} {m : Bool} → Turns s (x .found) c → c .port ≡ x .found .port → c .place ≡ x .found .place

@@ -31,8 +31,8 @@ pub record Coherent (B : ℕ) (q : Port) (h : List Event) (c : Carrier) : Type 0
   -- a carrier that is open or IN ACCESS is in the buffer, or at an idle TRANSFER BLOCKED port
   pub openStands : (isOpen c || inAccess c) ≡ true → standsStill q c ≡ true
   -- a tool with a buffer opens carriers there, and one without at the port
-  pub openInside : isOpen c ≡ true → 1 ≤ B → inBuffer c ≡ true
-  pub openOutside : isOpen c ≡ true → B ≡ 0 → atPort c ≡ true
+  pub openInBuffer : isOpen c ≡ true → 1 ≤ B → inBuffer c ≡ true
+  pub openAtPort : isOpen c ≡ true → B ≡ 0 → atPort c ≡ true
   -- slot status WAITING FOR HOST, OK or FAILED: its slot map was reported
   pub slotMapped : (slotWaits c || slotOk c || slotFailed c) ≡ true → wasMapped (c .name) h ≡ true
   -- a carrier that came out of the buffer is at a port that is READY TO UNLOAD or unloading
