@@ -55,7 +55,7 @@ module _ (s : State) (i : Input) (f : Facts s) where
   x = see s i
 
   -- ── Row 5 ──
-  abbrev proceeding : Bool → Bool → Effect
+  abbrev pub proceeding : Bool → Bool → Effect
   proceeding w m = record {
     port = cond w 0 (x .port);
     becomes = cond w noPort (tiedTo (x .name) (x .here));
@@ -92,7 +92,7 @@ module _ (s : State) (i : Input) (f : Facts s) where
   abbrev port-of : Bool → Bool → Port
   port-of w v = cond w (cond v (x .home) noPort) (tiedTo (x .name) (x .here))
 
-  abbrev cancelling : Bool → Bool → Bool → Bool → Effect
+  abbrev pub cancelling : Bool → Bool → Bool → Bool → Effect
   cancelling w v z m = record {
     port = cond w (cond v (x .found .port) 0) (x .port);
     becomes = cond z noPort (toUnload (port-of w v));

@@ -1,18 +1,16 @@
 -- Rows 5, 6, 16 and 17 are lawful: a pod is read and judged.
-use Prim.Native.Nat.{ℕ}
 use native.Mathlib.Omega.{arith}
 use mathlib.Core.Path.{_≡_, refl}
-use mathlib.Core.Logic.{_≢_, _⊎_, inl, inr}
+use mathlib.Core.Logic.{_⊎_, inl, inr}
 use mathlib.Core.Bool.{Bool, true, false, not, cond, _&&_, _||_}
 use lib.Dec.{eqb}
 use borrow.Author.Tests.{eqb-true, eq-eqb, ne-eqb}
 use Rattle.lists.proofs.Bools.{clash, and-l, and-r, or-other, or-false-l, not-true, not-false}
-use Rattle.records.specs.declared.port.Port.{Port}
 use Rattle.records.specs.declared.carrier.Carrier.{Carrier}
-use Rattle.records.specs.Ports.{noPort, hasPod, tagUnread, readyToUnload, tagNotRead, toUnload}
+use Rattle.records.specs.Ports.{hasPod, tagUnread, tagNotRead}
 use Rattle.records.specs.Carriers.{noCarrier, newCarrier, expected, isOpen, atPort, cameOut, idWaits, idOk, slotWaits}
-use Rattle.records.specs.Carriers.{slotFailed, inAccess, placedAt, proceeded, judgedNo, cancelledBy}
-use Rattle.records.specs.Fields.{withId, tiedTo}
+use Rattle.records.specs.Carriers.{slotFailed, inAccess, placedAt}
+use Rattle.records.specs.Fields.{withId}
 use Rattle.rules.specs.declared.row.Seen.{Seen}
 use Rattle.rules.specs.State.{State, portOf}
 use Rattle.rules.specs.Seen.{Input, see}
@@ -20,9 +18,10 @@ use Rattle.rules.specs.Row.{otherPort, placed, unknownPod, foundOrNew}
 use Rattle.rules.specs.Verdict.{takesUnknownPod, proceedWithCarrier, cancelAt, cancelPort, failed, canCancel, cancelCarrier}
 use Rattle.rules.specs.Reading.{readable, elsewhere, idRead, idReadFailed}
 use Rattle.rules.proofs.Accepts.{clear}
-use Rattle.rules.proofs.KeepSeen.{given-range, found-live, held-tied, held-live}
+use Rattle.rules.proofs.KeepSeen.{given-range, found-fits, held-tied, held-live}
 use Rattle.rules.proofs.KeepSeen.{either-shut, placed-known}
 use Rattle.rules.proofs.UnknownPod.{pod-there}
+use Rattle.rules.proofs.KeepVerdict.{proceeding, cancelling}
 use Rattle.rules.proofs.Lawful.{Marked, Berth, Turns, Lawful, away-berth, shut-by}
 use Rattle.rules.proofs.LawfulShapes.{Fine, calm, gives-out, turns-shut, Ready, facts-of}
 use Rattle.rules.proofs.LawfulShapes.{found-lid, found-berth, held-lid, held-berth}
@@ -135,14 +134,7 @@ module _ {s : State} {i : Input} (r : Ready s i) where
       failed-before false z = clash z refl
 
       go : (w : Bool) → placed x ≡ w → (placed x ≡ false → Marked (x .here))
-          → Lawful s i 5 (record {
-            port = cond w 0 (x .port);
-            becomes = cond w noPort (tiedTo (x .name) (x .here));
-            goes = x .count;
-            changes = x .stands;
-            next = cond w (proceeded (x .found)) (withId 3 (placedAt (x .port) (foundOrNew x)));
-            made = not (x .known);
-          })
+          → Lawful s i 5 (proceeding s i (facts-of r) w (not (x .known)))
       go true p d = in-place r 5 (record {
         lid = record {
           okId = λ z. ok (idWaits (x .found)) (found-lid r .okId z);
@@ -163,20 +155,13 @@ module _ {s : State} {i : Input} (r : Ready s i) where
       let c = or-other (not (placed x)) (canCancel x (x .found) (x .home)) e (rw p) in
       not-true _ (and-r (not (otherPort x (x .found))) _ (and-l _ _ c))
 
-  -- the port that is concerned, and where it stands
-  abbrev at-of : Bool → Bool → ℕ
-  at-of w v = cond w (cond v (x .found .port) 0) (x .port)
-
-  abbrev port-of : Bool → Bool → Port
-  port-of w v = cond w (cond v (x .home) noPort) (tiedTo (x .name) (x .here))
-
   pub cancel-carrier-law : Fine s i 6 (cancelCarrier x)
   unfolding see cancelAt cancelPort failed
   cancel-carrier-law = record {
     fine = λ e.
         let k = clear (cancelCarrier x .grounds) refl e in
-        go (placed x) refl (atPort (x .found)) refl (not-accessed (k .1 .1 .1 .1 .0)) (λ n. unknown-here n (k .1 .1 .0) (k .1 .1 .1 .0))
-        _ (λ n. rw (ne-eqb (cancelAt x) 0 n)) (λ n. rw (eq-eqb (cancelAt x) 0 n));
+        go (placed x) refl (atPort (x .found)) refl (eqb (cancelAt x) 0) refl (not-accessed (k .1 .1 .1 .1 .0))
+        (λ n. unknown-here n (k .1 .1 .0) (k .1 .1 .1 .0));
   }
     where
       failed-by : (w : Bool) → (not (idWaits (x .found)) && slotWaits (x .found)) ≡ w → eqb (cond w 4 (x .found .slot)) 4 ≡ true
@@ -184,32 +169,29 @@ module _ {s : State} {i : Input} (r : Ready s i) where
       failed-by true q z = inr (and-r (not (idWaits (x .found))) _ q)
       failed-by false q z = inl z
 
-      go : (w : Bool) → placed x ≡ w → (v : Bool) → atPort (x .found) ≡ v → (placed x ≡ true → inAccess (x .found) ≡ false)
-          → (placed x ≡ false → (x .isport ≡ true) × Marked (x .here))
-          → (q : Port) → (at-of w v ≢ 0 → q ≡ toUnload (port-of w v)) → (at-of w v ≡ 0 → q ≡ noPort)
-          → Lawful s i 6 (record {
-            port = at-of w v;
-            becomes = q;
-            goes = x .count;
-            changes = x .stands;
-            next = cancelledBy (readyToUnload (port-of w v)) (cond w (judgedNo (x .found)) (withId 4 (placedAt (x .port) (foundOrNew x))));
-            made = not (x .known);
-          })
-      go true p true l n d q y o =
-          let u = placed-known s i (facts-of r) p in
-          let t = facts-of r .records (x .stands) (found-live s i (facts-of r) u) .stands .atTied (eqb-true _ 1 l) in
-          rw (y (λ z. omega arith))
-          (at-home r 6 u (turns-shut (failed-by _ refl) refl (n p)) refl (record { marked = found-berth r .marked; out = λ _. (l, refl) })
-          (pod-same r (x .found .port) _ refl))
-      go true p false l n d q y o = rw (o refl) (record {
+      go : (w : Bool) → placed x ≡ w → (v : Bool) → atPort (x .found) ≡ v
+          → (z : Bool) → eqb (cond w (cond v (x .found .port) 0) (x .port)) 0 ≡ z
+          → (placed x ≡ true → inAccess (x .found) ≡ false) → (placed x ≡ false → (x .isport ≡ true) × Marked (x .here))
+          → Lawful s i 6 (cancelling s i (facts-of r) w v z (not (x .known)))
+      go true p true l true y n d =
+          let t = found-fits s i (facts-of r) (placed-known s i (facts-of r) p) .stands .atTied (eqb-true (x .found .place) 1 l) in
+          let o = eqb-true (x .found .port) 0 y in
+          absurd (omega arith)
+      go true p true l false y n d =
+          at-home r 6 (placed-known s i (facts-of r) p) (turns-shut (failed-by _ refl) refl (n p)) refl
+          (record { marked = found-berth r .marked; out = λ _. (l, refl) }) (pod-same r (x .found .port) _ refl)
+      go true p false l true y n d = record {
         steady = λ z. absurd (z refl);
         turns = turns-shut (failed-by _ refl) refl (n p);
         berth = away-berth l refl;
         pod = pod-none r;
-      })
-      go false p v l n d q y o =
-          let c = arriving p in
+      }
+      go true p false l false y n d = clash {b = eqb 0 0} refl y
+      go false p v l true y n d =
           let t = given-range s i (facts-of r) (d p .0) .0 in
-          rw (y (λ z. omega arith))
-          (comes-law r 6 (gives-out refl refl refl) (turns-shut (c .slot) refl (c .left)) refl
-          (record { marked = λ _. d p .1; out = λ _. (refl, refl) }) (pod-here r _ refl))
+          let o = eqb-true (x .port) 0 y in
+          absurd (omega arith)
+      go false p v l false y n d =
+          let c = arriving p in
+          comes-law r 6 (gives-out refl refl refl) (turns-shut (c .slot) refl (c .left)) refl
+          (record { marked = λ _. d p .1; out = λ _. (refl, refl) }) (pod-here r _ refl)
