@@ -109,7 +109,7 @@ rejected place accessing = carrier A place 0 1 0 1 0 threes 4 4 accessing
 abbrev endedUnread : Carrier
 endedUnread = carrier A 1 0 1 1 0 0 threes 3 1 3
 
--- a tool of one port with this carrier, and so many places
+-- a tool of so many places, this one port and this one carrier
 abbrev holding : ℕ → Port → Carrier → State
 holding places q c = state places (q ∷ []) (c ∷ [])
 
