@@ -94,6 +94,7 @@ none-lid B = record { okId = λ z. clash z refl; access = λ z. clash z refl; ba
 pub away-berth : {q : Port} {c : Carrier} → atPort c ≡ false → cameOut c ≡ false → Berth q c
 away-berth a b = record { marked = λ z. clash z a; out = λ z. clash z b }
 
+-- what goes needn't have what each of the others has
 each-gone : (P : Carrier → Type 0) (l : List Carrier) (g : ℕ) → ((j : ℕ) → j < length l → j ≢ g → P (getD l j noCarrier))
     → AtEach P noCarrier (without g l)
 unfolding without
@@ -103,7 +104,7 @@ each-gone P (x ∷ l) (suc g) h zero b = h 0 (omega arith) (λ e. omega arith)
 each-gone P (x ∷ l) (suc g) h (suc j) b =
     each-gone P l g (λ k i n. h (suc k) (suc-le-suc i) (λ e. n (omega arith))) j (le-of-suc-le-suc b)
 
--- two tests that don't both hold
+-- of two tests that don't both hold
 not-both : (a b : Bool) → (a ≡ true → b ≡ false) → not (a && b) ≡ true
 not-both true b f = rw (f refl)
 not-both false b f = refl
