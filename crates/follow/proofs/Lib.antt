@@ -1,0 +1,4 @@
+pub mod Closed
+pub mod Entries
+pub mod Follows
+pub mod Beside

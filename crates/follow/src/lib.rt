@@ -1,0 +1,2 @@
+// Tables beside the records, which follow them.
+pub mod table;
