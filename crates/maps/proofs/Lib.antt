@@ -1,0 +1,11 @@
+pub mod Amended
+pub mod SoundRuns
+pub mod SoundTools
+pub mod AtOnce
+pub mod Opened
+pub mod Projected
+pub mod Kept
+pub mod Retold
+pub mod Happened
+pub mod Promised
+pub mod Judged

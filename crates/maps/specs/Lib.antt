@@ -1,0 +1,9 @@
+pub mod Expected
+pub mod State
+pub mod Sound
+pub mod Rows
+pub mod Outcome
+pub mod Projection
+pub mod History
+pub mod Promise
+pub mod Judged
