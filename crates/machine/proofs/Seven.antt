@@ -84,7 +84,7 @@ module _ (m : ℕ) (gone : Name) (lost : ℕ) (n : Name) (old new : ℕ) where
       simp length-append (omega arith)
 
 -- Of every row: no record goes, or none changes and none is made, or only the tie of the port is reported.
-data Small (s : State) (r : Row) : Type 0 where
+pub data Small (s : State) (r : Row) : Type 0 where
   noneGoes : length (s .carriers) ≤ r .effect .goes → Small s r
   noneChanges : length (s .carriers) ≤ r .effect .changes → r .effect .next ≡ noCarrier → Small s r
   onlyTie : portOf s (r .effect .port) .transfer ≡ r .effect .becomes .transfer
@@ -169,7 +169,7 @@ module _ (s : State) (r : Row) where
       let c = each 7 (λ c. c .accessing) refl in
       omega arith
 
-  told-seven : Small s r → length told ≤ 7
+  pub told-seven : Small s r → length told ≤ 7
   told-seven (noneGoes h) = told-at-most 4 1 (port-four _ _ _) (λ m f z. one-if-none-goes m f z h)
   told-seven (noneChanges h n) = told-at-most 4 1 (port-four _ _ _) (λ m f z. one-if-none-changes m f z h n)
   told-seven (onlyTie t u v) = told-at-most 1 2 (port-one _ _ _ t u v) (λ m f z. record-two m _ _ _ _ _)

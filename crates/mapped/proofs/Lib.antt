@@ -1,0 +1,3 @@
+pub mod InBytes
+pub mod Carried
+pub mod Seven
