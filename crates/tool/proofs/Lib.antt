@@ -1,0 +1,4 @@
+pub mod Tested
+pub mod Blank
+pub mod Runs
+pub mod Only

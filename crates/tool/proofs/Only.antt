@@ -1,0 +1,59 @@
+-- The whole tool is all of its bytes: two blocks of 1,891 that are read alike are the same.
+use Prim.Native.Nat.{ℕ, _+_, _*_, _/_, _%_, _-_, _<_, _≤_}
+use native.Mathlib.Omega.{arith}
+use mathlib.Core.Path.{_≡_, refl, ap, sym, _∙_}
+use mathlib.Core.Bool.{Bool, true, false}
+use mathlib.Core.List.{List, [], _∷_}
+use lib.ListN.{length, getD}
+use lib.Seq.{ext-getD}
+use lib.Dec.{ltb}
+use borrow.Author.Tests.{ltb-true, ltb-false}
+use Rattle.image.specs.Image.{byteAt, bytesFrom}
+use Rattle.image.proofs.Table.{getD-table}
+use Rattle.image.proofs.Only.{each-byte, one-image}
+use Rattle.maps.specs.Expected.{noMap}
+use Rattle.mapped.specs.Bytes.{mapsFrom}
+use Rattle.mapped.proofs.InBytes.{map-is}
+use Rattle.tool.specs.Whole.{wholeIn}
+
+-- a byte of a part that is the same in both
+part-byte : (m n : List ℕ) (o w i : ℕ) → bytesFrom m o w ≡ bytesFrom n o w → i < w → byteAt m (o + i) ≡ byteAt n (o + i)
+part-byte m n o w i e h =
+    sym (getD-table w (λ i. byteAt m (o + i)) i 0 h) ∙ ap (λ l. getD l i 0) e ∙ getD-table w (λ i. byteAt n (o + i)) i 0 h
+
+module _ (m n : List ℕ) (p : mapsFrom m ≡ mapsFrom n) (q : bytesFrom m 900 991 ≡ bytesFrom n 900 991) where
+  map-byte : (i : ℕ) → i < 900 → byteAt m i ≡ byteAt n i
+  map-byte i h =
+      let k = i / 25 in
+      let z : 25 * k + i % 25 ≡ i = omega arith in
+      let b : k < 36 = omega arith in
+      let r : i % 25 < 25 = omega arith in
+      let e = sym (map-is m k b) ∙ ap (λ l. getD l k noMap) p ∙ map-is n k b in
+      rw z at (part-byte m n (25 * k) 25 (i % 25) e r)
+
+  rest-byte : (i : ℕ) → 900 ≤ i → i < 1891 → byteAt m i ≡ byteAt n i
+  rest-byte i h l =
+      let z : 900 + (i - 900) ≡ i = omega arith in
+      rw z at (part-byte m n 900 991 (i - 900) q (omega arith))
+
+  pub block-byte : (i : ℕ) → i < 1891 → byteAt m i ≡ byteAt n i
+  block-byte i l = go (ltb i 900) refl
+    where
+      go : (b : Bool) → ltb i 900 ≡ b → byteAt m i ≡ byteAt n i
+      go true e = map-byte i (ltb-true i 900 e)
+      go false e = rest-byte i (ltb-false i 900 e) l
+
+  one-block : length m ≡ 1891 → length n ≡ 1891 → m ≡ n
+  one-block a b = ext-getD 0 m n (a ∙ sym b) (λ i h. block-byte i (omega arith))
+
+pub one-tool : (a b c d : List ℕ) → length a ≡ 1891 → length b ≡ 1891 → length c ≡ 1891 → length d ≡ 1891
+    → wholeIn (a ∷ b ∷ []) ≡ wholeIn (c ∷ d ∷ []) → _≡_ {A = List (List ℕ)} (a ∷ b ∷ []) (c ∷ d ∷ [])
+one-tool a b c d p q r s e =
+    rw (one-image a c (ap (λ t. t .mapped .base) e) p r, one-block b d (ap (λ t. t .mapped .maps) e) (ap (λ t. t .unused) e) q s)
+
+-- the same in every byte, of any two that are read alike
+pub first-bytes : (a b : List (List ℕ)) → wholeIn a ≡ wholeIn b → (i : ℕ) → i < 1891 → byteAt (getD a 0 []) i ≡ byteAt (getD b 0 []) i
+first-bytes a b e = each-byte (getD a 0 []) (getD b 0 []) (ap (λ t. t .mapped .base) e)
+
+pub second-bytes : (a b : List (List ℕ)) → wholeIn a ≡ wholeIn b → (i : ℕ) → i < 1891 → byteAt (getD a 1 []) i ≡ byteAt (getD b 1 []) i
+second-bytes a b e = block-byte (getD a 1 []) (getD b 1 []) (ap (λ t. t .mapped .maps) e) (ap (λ t. t .unused) e)

@@ -1,0 +1,2 @@
+// The whole tool, as every request that has landed leaves it: set-up, soundness, and one input at a time.
+pub mod whole;
