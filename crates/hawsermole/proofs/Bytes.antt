@@ -6,57 +6,64 @@ use mathlib.Core.Bool.{Bool, true, false, cond}
 use mathlib.Core.List.{List}
 use lib.ListN.{replicate}
 use lib.Dec.{eqb}
-use Rattle.rules.specs.declared.tool.Tool.{Tool}
-use Rattle.rules.specs.declared.report.Outcome.{Outcome}
-use Rattle.rules.specs.State.{stateOf}
-use Rattle.rules.specs.Sound.{soundTool}
 use Rattle.rules.specs.Seen.{Input}
 use Rattle.rules.specs.Reports.{noReports}
-use Rattle.rules.specs.Outcome.{refused, accepted, answerIn, stateAfter, outcomeIn, outcome}
-use Rattle.image.specs.Image.{toolFrom}
-use Rattle.image.proofs.Only.{each-byte, reported-byte}
+use Rattle.image.proofs.Only.{reported-byte}
 use Rattle.image.proofs.Reported.{none-reported}
-use Rattle.hawsermole.specs.Calls.{SetUpCall, StepCall, SameBytes}
+use Rattle.maps.specs.State.{MappedTool, stateOf}
+use Rattle.maps.specs.Outcome.{Given, rowIn, answerIn, stateAfter, accepted, givenIn}
+use Rattle.maps.specs.Outcome as maps
+use Rattle.tool.specs.Whole.{Whole, wholeIn, soundWhole, refused, around, Outcome, outcome}
+use Rattle.tool.proofs.Only.{first-bytes, second-bytes}
+use Rattle.hawsermole.specs.Calls.{SetUpCall, StepCall, SameBytes, SameTool}
 
-module _ (t : Tool) (i : Input) where
-  -- an outcome that isn't answered with 0 leaves the tool, and reports nothing
+-- what isn't answered with 0 leaves the tool, and reports nothing
+given-refuses : (t : MappedTool) (i : Input) → givenIn t i .answer ≢ 0 → (givenIn t i .tool ≡ t) × (givenIn t i .reports ≡ noReports)
+unfolding givenIn
+given-refuses t i = go (eqb (answerIn (stateOf t) i) 0)
+  where
+    Refuses : Given → Type 0
+    Refuses g = g .answer ≢ 0 → (g .tool ≡ t) × (g .reports ≡ noReports)
+
+    go : (w : Bool) → Refuses (cond w (accepted (stateOf t) (stateAfter (stateOf t) i) (rowIn (stateOf t) i .effect))
+        (maps.refused t (answerIn (stateOf t) i)))
+    go true n = absurd (n refl)
+    go false n = (refl, refl)
+
+module _ (t : Whole) (i : Input) where
   abbrev Refuses : Outcome → Type 0
   Refuses o = o .answer ≢ 0 → (o .tool ≡ t) × (o .reports ≡ noReports)
 
-  refuses-in : Refuses (outcomeIn t i)
-  unfolding outcomeIn
-  refuses-in = go (eqb (answerIn (stateOf t) i) 0)
-    where
-      go : (w : Bool) → Refuses (cond w (accepted (stateOf t) (stateAfter (stateOf t) i)) (refused t (answerIn (stateOf t) i)))
-      go true n = absurd (n refl)
-      go false n = (refl, refl)
-
   refuses : Refuses (outcome t i)
   unfolding outcome
-  refuses = go (soundTool t)
+  refuses = go (soundWhole t)
     where
-      go : (w : Bool) → Refuses (cond w (outcomeIn t i) (refused t 1))
-      go true n = refuses-in n
+      go : (w : Bool) → Refuses (cond w (around t (givenIn (t .mapped) i)) (refused t 1))
+      go true n = let g = given-refuses (t .mapped) i n in (rw (g .0), g .1)
       go false n = (refl, refl)
 
+same-tool : (a b : List (List ℕ)) → wholeIn a ≡ wholeIn b → SameTool a b
+same-tool a b e = (first-bytes a b e, second-bytes a b e)
+
 -- A refused input leaves every byte of the tool as it was, and a report list of zeros.
-pub refused-leaves : (before : List ℕ) (i : Input) (r : ℕ) (after reports : List ℕ) → StepCall before i r after reports → r ≢ 0
-    → SameBytes 1891 after before × SameBytes 141 reports (replicate 141 0)
+pub refused-leaves : (before : List (List ℕ)) (i : Input) (r : ℕ) (after : List (List ℕ)) (reports : List ℕ)
+    → StepCall before i r after reports → r ≢ 0
+    → SameTool after before × SameBytes 141 reports (replicate 141 0)
 refused-leaves before i r after reports s n =
-    let o = refuses (toolFrom before) i (λ z. n (s .answered ∙ z)) in
-    (each-byte after before (s .tool ∙ o .0), reported-byte reports (replicate 141 0) (s .told ∙ o .1 ∙ sym none-reported))
+    let o = refuses (wholeIn before) i (λ z. n (s .answered ∙ z)) in
+    (same-tool after before (s .tool ∙ o .0), reported-byte reports (replicate 141 0) (s .told ∙ o .1 ∙ sym none-reported))
 
 -- Two calls that meet the same bytes with the same input give the same answer, and leave the same bytes and the same report list.
-pub same-again : (before : List ℕ) (i : Input) (r r′ : ℕ) (after after′ reports reports′ : List ℕ)
+pub same-again : (before : List (List ℕ)) (i : Input) (r r′ : ℕ) (after after′ : List (List ℕ)) (reports reports′ : List ℕ)
     → StepCall before i r after reports → StepCall before i r′ after′ reports′
-    → (r ≡ r′) × SameBytes 1891 after after′ × SameBytes 141 reports reports′
+    → (r ≡ r′) × SameTool after after′ × SameBytes 141 reports reports′
 same-again before i r r′ after after′ reports reports′ s t = (
   s .answered ∙ sym (t .answered),
-  each-byte after after′ (s .tool ∙ sym (t .tool)),
+  same-tool after after′ (s .tool ∙ sym (t .tool)),
   reported-byte reports reports′ (s .told ∙ sym (t .told)),
 )
 
 -- And so for set-up, whatever bytes it met.
-pub set-up-again : (P B r r′ : ℕ) (after after′ : List ℕ) → SetUpCall P B r after → SetUpCall P B r′ after′
-    → (r ≡ r′) × SameBytes 1891 after after′
-set-up-again P B r r′ after after′ s t = (s .answered ∙ sym (t .answered), each-byte after after′ (s .tool ∙ sym (t .tool)))
+pub set-up-again : (P B r r′ : ℕ) (after after′ : List (List ℕ)) → SetUpCall P B r after → SetUpCall P B r′ after′
+    → (r ≡ r′) × SameTool after after′
+set-up-again P B r r′ after after′ s t = (s .answered ∙ sym (t .answered), same-tool after after′ (s .tool ∙ sym (t .tool)))

@@ -9,27 +9,29 @@ use lib.Dec.{eqb, leb}
 use borrow.Author.Tests.{eqb-true, leb-true}
 use Rattle.lists.specs.Lists.{between}
 use Rattle.lists.proofs.Bools.{and-l, and-r}
-use Rattle.rules.specs.declared.tool.Tool.{Tool}
 use Rattle.rules.specs.declared.tool.Setup.{Setup}
-use Rattle.rules.specs.declared.report.Outcome.{Outcome}
-use Rattle.rules.specs.State.{State, stateOf, inTool, noTool, start, setUp, recordOf}
-use Rattle.rules.specs.Sound.{soundTool}
+use Rattle.rules.specs.State as base
+use Rattle.rules.specs.State.{recordOf}
 use Rattle.rules.specs.Seen.{Input}
-use Rattle.rules.specs.Outcome.{refused, accepted, answerIn, stateAfter, outcome}
-use Rattle.rules.specs.History.{Event, reached, reachedTool, events, history}
-use Rattle.rules.specs.Promise.{Live, Orderly, Earned}
-use Rattle.rules.proofs.SoundTools.{outcome-is}
-use Rattle.rules.proofs.Promised.{promised, tool-sound, tool-holds}
-use Rattle.image.specs.Image.{toolFrom}
+use Rattle.rules.specs.Promise.{Live, Orderly}
+use Rattle.maps.specs.State.{Mapped, MappedTool, stateOf, start}
+use Rattle.maps.specs.Outcome.{rowIn, answerIn, stateAfter, refused, accepted, givenIn}
+use Rattle.maps.specs.Projection.{reached}
+use Rattle.maps.specs.History.{Event, events, history}
+use Rattle.maps.specs.Promise.{Earned}
+use Rattle.maps.proofs.Promised.{promised}
+use Rattle.tool.specs.Whole.{Whole, wholeIn, soundWhole, setUp, outcome, reachedWhole}
+use Rattle.tool.proofs.Tested.{when-sound}
+use Rattle.tool.proofs.Runs.{tool-sound, tool-holds}
 use Rattle.hawsermole.specs.Calls.{Call, Left, stateIn, eventOf, Kept}
 
 -- an accepted set-up is one of 1 to 4 ports and 0 to 16 places
 module _ (P B : ℕ) where
   abbrev setUpIf : Bool → Setup
-  setUpIf w = cond w (record { tool = inTool (start P B); answer = 0 }) (record { tool = noTool; answer = 1 })
+  setUpIf w = cond w (record { tool = base.inTool (base.start P B); answer = 0 }) (record { tool = base.noTool; answer = 1 })
 
   fits : setUp P B .answer ≡ 0 → (between 1 P 4 && leb B 16) ≡ true
-  unfolding setUp
+  unfolding base.setUp
   fits = go (between 1 P 4 && leb B 16)
     where
       go : (w : Bool) → setUpIf w .answer ≡ 0 → w ≡ true
@@ -37,47 +39,53 @@ module _ (P B : ℕ) where
       go false z = absurd (omega arith)
 
 -- a sound tool answers as its state does
-answer-is : (t : Tool) (i : Input) → soundTool t ≡ true → outcome t i .answer ≡ answerIn (stateOf t) i
-answer-is t i h = ap (λ (o : Outcome). o .answer) (outcome-is t i h) ∙ go (eqb (answerIn (stateOf t) i) 0) refl
+given-answer : (t : MappedTool) (i : Input) → givenIn t i .answer ≡ answerIn (stateOf t) i
+unfolding givenIn
+given-answer t i = go (eqb (answerIn (stateOf t) i) 0) refl
   where
     go : (w : Bool) → eqb (answerIn (stateOf t) i) 0 ≡ w
-        → cond w (accepted (stateOf t) (stateAfter (stateOf t) i)) (refused t (answerIn (stateOf t) i)) .answer ≡ answerIn (stateOf t) i
+        → cond w (accepted (stateOf t) (stateAfter (stateOf t) i) (rowIn (stateOf t) i .effect))
+        (refused t (answerIn (stateOf t) i)) .answer
+        ≡ answerIn (stateOf t) i
     go true e = sym (eqb-true _ 0 e)
     go false e = refl
+
+answer-is : (t : Whole) (i : Input) → soundWhole t ≡ true → outcome t i .answer ≡ answerIn (stateOf (t .mapped)) i
+answer-is t i h = ap (λ o. o .answer) (sym (when-sound t i h)) ∙ given-answer (t .mapped) i
 
 abbrev inputs : List Call → List Input
 inputs calls = map (λ c. c .input) calls
 
 module _ (P B : ℕ) where
   -- a run begins with a set-up that was accepted
-  set-up : (calls : List Call) (bytes : List ℕ) → Left P B calls bytes → setUp P B .answer ≡ 0
+  set-up : (calls : List Call) (bytes : List (List ℕ)) → Left P B calls bytes → setUp P B .answer ≡ 0
   unfolding Left
   set-up [] bytes l = sym (l .answered)
   set-up (c ∷ earlier) bytes l = set-up earlier (c .before) (l .0)
 
   -- the bytes hold the tool that the definitions reach by the same inputs
-  tool-is : (calls : List Call) (bytes : List ℕ) → Left P B calls bytes
-      → toolFrom bytes ≡ reachedTool (setUp P B .tool) (inputs calls)
-  unfolding Left reachedTool
+  tool-is : (calls : List Call) (bytes : List (List ℕ)) → Left P B calls bytes
+      → wholeIn bytes ≡ reachedWhole (setUp P B .tool) (inputs calls)
+  unfolding Left reachedWhole
   tool-is [] bytes l = l .tool
   tool-is (c ∷ earlier) bytes l = l .1 .tool ∙ ap (λ t. outcome t (c .input) .tool) (tool-is earlier (c .before) (l .0))
 
-  module _ (calls : List Call) (bytes : List ℕ) (l : Left P B calls bytes) where
-    sound-is : soundTool (toolFrom bytes) ≡ true
-    sound-is = ap soundTool (tool-is calls bytes l) ∙ tool-sound P B (set-up calls bytes l) (inputs calls)
+  module _ (calls : List Call) (bytes : List (List ℕ)) (l : Left P B calls bytes) where
+    sound-is : soundWhole (wholeIn bytes) ≡ true
+    sound-is = ap soundWhole (tool-is calls bytes l) ∙ tool-sound P B (set-up calls bytes l) (inputs calls)
 
     state-is : stateIn bytes ≡ reached (start P B) (inputs calls)
-    state-is = ap stateOf (tool-is calls bytes l) ∙ tool-holds P B (set-up calls bytes l) (inputs calls)
+    state-is = ap (λ t. stateOf (t .mapped)) (tool-is calls bytes l) ∙ tool-holds P B (set-up calls bytes l) (inputs calls)
 
   -- the answer that counts for a call is the definitions'
-  answer-given : (c : Call) (earlier : List Call) (bytes : List ℕ) → Left P B (c ∷ earlier) bytes
+  answer-given : (c : Call) (earlier : List Call) (bytes : List (List ℕ)) → Left P B (c ∷ earlier) bytes
       → eventOf c .answer ≡ answerIn (stateIn (c .before)) (c .input)
   unfolding Left
   answer-given c earlier bytes l =
-      l .1 .answered ∙ answer-is (toolFrom (c .before)) (c .input) (sound-is earlier (c .before) (l .0))
+      l .1 .answered ∙ answer-is (wholeIn (c .before)) (c .input) (sound-is earlier (c .before) (l .0))
 
   -- what happened in the calls is what happens by the definitions
-  events-are : (calls : List Call) (bytes : List ℕ) → Left P B calls bytes → map eventOf calls ≡ events (start P B) (inputs calls)
+  events-are : (calls : List Call) (bytes : List (List ℕ)) → Left P B calls bytes → map eventOf calls ≡ events (start P B) (inputs calls)
   unfolding Left events
   events-are [] bytes l = refl
   events-are (c ∷ earlier) bytes l =
@@ -85,17 +93,17 @@ module _ (P B : ℕ) where
       ∙ ap (λ s. event s (answerIn s (c .input)) ∷ map eventOf earlier) (state-is earlier (c .before) (l .0))
       ∙ ap (λ es. event now (answerIn now (c .input)) ∷ es) (events-are earlier (c .before) (l .0))
     where
-      event : State → ℕ → Event
+      event : Mapped → ℕ → Event
       event s a = record { before = s; input = c .input; answer = a }
 
-      now : State
+      now : Mapped
       now = reached (start P B) (inputs earlier)
 
 -- each carrier of a state has behind it what happened
-abbrev Backed : State → List Event → Type 0
-Backed s es = (k : ℕ) → Live s k → Earned (history (recordOf s k .name) es) (recordOf s k)
+abbrev Backed : Mapped → List Event → Type 0
+Backed s es = (k : ℕ) → Live (s .base) k → Earned (history (recordOf (s .base) k .name) es) (recordOf (s .base) k)
 
-pub kept : (P B : ℕ) (calls : List Call) (bytes : List ℕ) → Left P B calls bytes → Kept P B calls bytes
+pub kept : (P B : ℕ) (calls : List Call) (bytes : List (List ℕ)) → Left P B calls bytes → Kept P B calls bytes
 kept P B calls bytes l =
     let f = fits P B (set-up P B calls bytes l) in
     let b = and-l _ _ f in
@@ -104,8 +112,8 @@ kept P B calls bytes l =
     let s = sym (state-is P B calls bytes l) in
     record {
       sound = sound-is P B calls bytes l;
-      orderly = subst Orderly s (p .orderly);
-      few = subst (λ s. length (s .carriers) ≤ P + B + 16) s (p .few);
+      orderly = subst (λ s. Orderly (s .base)) s (p .orderly);
+      few = subst (λ s. length (s .base .carriers) ≤ P + B + 16) s (p .few);
       earned = subst (λ s. Backed s (map eventOf calls)) s
           (subst (Backed (reached (start P B) (inputs calls))) (sym (events-are P B calls bytes l)) (p .earned));
     }

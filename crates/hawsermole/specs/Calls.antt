@@ -3,42 +3,43 @@ use Prim.Native.Nat.{ℕ, _+_, _≤_, _<_}
 use mathlib.Core.Path.{_≡_}
 use mathlib.Core.Bool.{true}
 use mathlib.Core.List.{List, [], _∷_, map}
-use lib.ListN.{length}
-use Rattle.rules.specs.State.{State, stateOf, recordOf, setUp}
-use Rattle.rules.specs.Sound.{soundTool}
+use lib.ListN.{length, getD}
+use Rattle.rules.specs.State.{recordOf}
 use Rattle.rules.specs.Seen.{Input}
-use Rattle.rules.specs.Outcome.{outcome}
-use Rattle.rules.specs.History.{Event, history}
-use Rattle.rules.specs.Promise.{Live, Orderly, Earned}
-use Rattle.image.specs.Image.{byteAt, toolFrom, reportsFrom}
+use Rattle.rules.specs.Promise.{Live, Orderly}
+use Rattle.image.specs.Image.{byteAt, reportsFrom}
+use Rattle.maps.specs.State.{Mapped, stateOf}
+use Rattle.maps.specs.History.{Event, history}
+use Rattle.maps.specs.Promise.{Earned}
+use Rattle.tool.specs.Whole.{wholeIn, soundWhole, setUp, outcome}
 
 -- What hm_setup ensures: the bytes that it leaves hold the tool that set-up gives, and it gives set-up's answer.
-pub record SetUpCall (ports places answer : ℕ) (after : List ℕ) : Type 0 where
-  pub tool : toolFrom after ≡ setUp ports places .tool
+pub record SetUpCall (ports places answer : ℕ) (after : List (List ℕ)) : Type 0 where
+  pub tool : wholeIn after ≡ setUp ports places .tool
   pub answered : answer ≡ setUp ports places .answer
 
 -- What hm_step ensures: the tool that it leaves, its reports and its answer are those of the input's outcome.
-pub record StepCall (before : List ℕ) (input : Input) (answer : ℕ) (after reports : List ℕ) : Type 0 where
-  pub tool : toolFrom after ≡ outcome (toolFrom before) input .tool
-  pub told : reportsFrom reports ≡ outcome (toolFrom before) input .reports
-  pub answered : answer ≡ outcome (toolFrom before) input .answer
+pub record StepCall (before : List (List ℕ)) (input : Input) (answer : ℕ) (after : List (List ℕ)) (reports : List ℕ) : Type 0 where
+  pub tool : wholeIn after ≡ outcome (wholeIn before) input .tool
+  pub told : reportsFrom reports ≡ outcome (wholeIn before) input .reports
+  pub answered : answer ≡ outcome (wholeIn before) input .answer
 
 -- A call of hm_step: the bytes that it met, the input, the answer that it gave, and the report list that it left.
 pub record Call : Type 0 where
-  pub before : List ℕ
+  pub before : List (List ℕ)
   pub input : Input
   pub answer : ℕ
   pub reports : List ℕ
 
 -- A run of calls, the latest first, and the bytes that it left: hm_setup answered 0 for P ports and B places,
 -- and each call of hm_step met the bytes that the call before it left.
-unfoldable pub Left : ℕ → ℕ → List Call → List ℕ → Type 0
+unfoldable pub Left : ℕ → ℕ → List Call → List (List ℕ) → Type 0
 Left P B [] bytes = SetUpCall P B 0 bytes
 Left P B (c ∷ earlier) bytes = Left P B earlier (c .before) × StepCall (c .before) (c .input) (c .answer) bytes (c .reports)
 
 -- the state that bytes hold
-abbrev pub stateIn : List ℕ → State
-stateIn bytes = stateOf (toolFrom bytes)
+abbrev pub stateIn : List (List ℕ) → Mapped
+stateIn bytes = stateOf (wholeIn bytes .mapped)
 
 -- What happened in a call: the answer is the one that the call gave.
 abbrev pub eventOf : Call → Event
@@ -46,13 +47,17 @@ eventOf c = record { before = stateIn (c .before); input = c .input; answer = c 
 
 -- The promise, of a run of calls and the bytes that it left: they hold a sound tool, its names, ties and places are in order,
 -- and each of its carriers has behind it what the calls' own answers show.
-pub record Kept (P B : ℕ) (calls : List Call) (bytes : List ℕ) : Type 0 where
-  pub sound : soundTool (toolFrom bytes) ≡ true
-  pub orderly : Orderly (stateIn bytes)
-  pub few : length (stateIn bytes .carriers) ≤ P + B + 16
-  pub earned : (k : ℕ) → Live (stateIn bytes) k
-      → Earned (history (recordOf (stateIn bytes) k .name) (map eventOf calls)) (recordOf (stateIn bytes) k)
+pub record Kept (P B : ℕ) (calls : List Call) (bytes : List (List ℕ)) : Type 0 where
+  pub sound : soundWhole (wholeIn bytes) ≡ true
+  pub orderly : Orderly (stateIn bytes .base)
+  pub few : length (stateIn bytes .base .carriers) ≤ P + B + 16
+  pub earned : (k : ℕ) → Live (stateIn bytes .base) k
+      → Earned (history (recordOf (stateIn bytes .base) k .name) (map eventOf calls)) (recordOf (stateIn bytes .base) k)
 
 -- the first n bytes are the same
 abbrev pub SameBytes : ℕ → List ℕ → List ℕ → Type 0
 SameBytes n a b = (k : ℕ) → k < n → byteAt a k ≡ byteAt b k
+
+-- the two blocks of a tool are the same
+abbrev pub SameTool : List (List ℕ) → List (List ℕ) → Type 0
+SameTool a b = SameBytes 1891 (getD a 0 []) (getD b 0 []) × SameBytes 1891 (getD a 1 []) (getD b 1 [])

@@ -1,20 +1,19 @@
-// The library's functions for C: a tool and a report list are bytes that the caller lends, and
+// The library's functions for C: a tool (3,782 bytes, in two blocks) and a report list are bytes that the caller lends, and
 // include/hawsermole.h names them.
 ghost use mathlib.Core.Path.{_≡_};
 ghost use mathlib.Core.Bool.{cond};
-ghost use Rattle.rules.specs.Sound.{soundTool};
 ghost use Rattle.rules.specs.Seen.{inputOf};
-ghost use Rattle.image.specs.Image.{toolFrom};
+ghost use Rattle.tool.specs.Whole.{wholeIn, soundWhole};
 ghost use Rattle.hawsermole.specs.Calls.{SetUpCall, StepCall};
-use machine::setup::setup;
-use machine::step::step;
-use soundness::whole::sound;
+use tool::whole::whole_setup;
+use tool::whole::whole_sound;
+use tool::whole::whole_step;
 
 #[no_mangle]
 pub extern "C" fn hm_tool_size() -> u32
-    ensures { λ r. ⌜ r ≡ 1891 ⌝ }
+    ensures { λ r. ⌜ r ≡ 3782 ⌝ }
 {
-    1891
+    3782
 }
 
 #[no_mangle]
@@ -25,23 +24,23 @@ pub extern "C" fn hm_reports_size() -> u32
 }
 
 #[no_mangle]
-pub extern "C" fn hm_setup(tool: &mut [u8; 1891], ports: u32, places: u32) -> u32
+pub extern "C" fn hm_setup(tool: &mut [[u8; 1891]; 2], ports: u32, places: u32) -> u32
     ensures { λ r. ⌜ SetUpCall ports places r (now (tool .exit)) ⌝ }
 {
-    let answer = setup(tool, ports, places);
+    let answer = whole_setup(tool, ports, places);
     answer as u32
 }
 
 #[no_mangle]
-pub extern "C" fn hm_sound(tool: &[u8; 1891]) -> u32
-    ensures { λ r. ⌜ r ≡ cond (soundTool (toolFrom (now (tool .entry)))) 1 0 ⌝ }
+pub extern "C" fn hm_sound(tool: &[[u8; 1891]; 2]) -> u32
+    ensures { λ r. ⌜ r ≡ cond (soundWhole (wholeIn (now (tool .entry)))) 1 0 ⌝ }
 {
-    if sound(tool) { 1 } else { 0 }
+    if whole_sound(tool) { 1 } else { 0 }
 }
 
 #[no_mangle]
 pub extern "C" fn hm_step(
-    tool: &mut [u8; 1891],
+    tool: &mut [[u8; 1891]; 2],
     reports: &mut [u8; 141],
     number: u32,
     port: u32,
@@ -52,6 +51,6 @@ pub extern "C" fn hm_step(
     ensures { λ r. ⌜ StepCall (now (tool .entry)) (inputOf number port value (now (name .entry)) (now (codes .entry)))
         r (now (tool .exit)) (now (reports .exit)) ⌝ }
 {
-    let answer = step(tool, reports, number, port, value, name, codes);
+    let answer = whole_step(tool, reports, number, port, value, name, codes);
     answer as u32
 }
