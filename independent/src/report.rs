@@ -39,7 +39,7 @@ fn face(c: &Carrier) -> CarrierFace {
 #[must_use]
 pub(crate) struct Touched {
     port: Option<(usize, PortFace)>,
-    gone: Option<([u8; NAME_LEN], CarrierFace)>,
+    gone: Option<(usize, [u8; NAME_LEN], CarrierFace)>,
     kept: Option<(usize, CarrierFace)>,
 }
 
@@ -68,7 +68,25 @@ impl Touched {
     #[inline]
     pub(crate) fn gone(self, t: &Tool, i: usize) -> Touched {
         let c = &t.carrier[i];
-        Touched { gone: Some((c.name, face(c))), ..self }
+        Touched { gone: Some((i, c.name, face(c))), ..self }
+    }
+
+    /// Where the record stood that went.
+    #[inline]
+    pub(crate) fn went(&self) -> Option<usize> {
+        self.gone.map(|(i, ..)| i)
+    }
+
+    /// Where the record stands that stayed or came, once the input is done.
+    #[inline]
+    pub(crate) fn stands(&self) -> Option<usize> {
+        self.kept.map(|(i, _)| i)
+    }
+
+    /// The same for a record that came: it had no state before.
+    #[inline]
+    pub(crate) fn came(&self) -> Option<usize> {
+        self.kept.filter(|(_, was)| *was == [0; 3]).map(|(i, _)| i)
     }
 
     /// Writes one report for each difference, by model, to reports that are empty so far.
@@ -98,7 +116,7 @@ impl Touched {
         let kept = self.kept.map(|(i, was)| (&t.carrier[i], was, face(&t.carrier[i])));
         for k in 0..3 {
             let model = ID + k as u8;
-            if let Some((name, was)) = self.gone {
+            if let Some((_, name, was)) = self.gone {
                 out.push(Report { model, port: 0, name, old: was[k], new: 0 });
             }
             if let Some((c, was, is)) = kept {

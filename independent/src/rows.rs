@@ -10,7 +10,7 @@ use crate::state::*;
 /// Why an input is refused.
 #[derive(Clone, Copy)]
 #[repr(u32)]
-enum Refusal {
+pub(crate) enum Refusal {
     Range = 1,
     NoRecord = 2,
     NameTaken = 3,
@@ -23,8 +23,8 @@ enum Refusal {
 
 use Refusal::*;
 
-type Result<T> = core::result::Result<T, Refusal>;
-type Outcome = Result<Touched>;
+pub(crate) type Result<T> = core::result::Result<T, Refusal>;
+pub(crate) type Outcome = Result<Touched>;
 
 /// Gives the tool an input: 0 if accepted, with the reports in `out`; otherwise the number of the
 /// refusal, with the tool as it was and no report. A state that isn't sound is refused with 1.
@@ -55,8 +55,27 @@ pub fn step_known_sound(
     codes: &[u8],
     out: &mut Reports,
 ) -> u32 {
+    let outcome = row(t, number, port, value, name, codes);
+    answered(outcome, t, out)
+}
+
+/// The answer, and the reports where the input was accepted.
+#[inline]
+pub(crate) fn answered(outcome: Outcome, t: &Tool, out: &mut Reports) -> u32 {
     *out = Reports::NONE;
-    let outcome = match number {
+    match outcome {
+        Ok(touched) => {
+            touched.report(t, out);
+            0
+        }
+        Err(refusal) => refusal as u32,
+    }
+}
+
+/// The row of this number: what it touched, or why it is refused.
+#[inline]
+pub(crate) fn row(t: &mut Tool, number: u32, port: u32, value: u32, name: &[u8], codes: &[u8]) -> Outcome {
+    match number {
         1 => bind(t, port, name),
         2 => cancel_bind(t, port, name),
         3 => carrier_notification(t, name),
@@ -84,13 +103,6 @@ pub fn step_known_sound(
         25 => unload_done(t, port),
         26 => unload_fail(t, port),
         _ => Err(Range),
-    };
-    match outcome {
-        Ok(touched) => {
-            touched.report(t, out);
-            0
-        }
-        Err(refusal) => refusal as u32,
     }
 }
 
@@ -530,7 +542,7 @@ fn unload_fail(t: &mut Tool, port: u32) -> Outcome {
 // ---- What the rows are made of --------------------------------------------------------------
 
 #[inline]
-fn unless(holds: bool, refusal: Refusal) -> Result<()> {
+pub(crate) fn unless(holds: bool, refusal: Refusal) -> Result<()> {
     if holds {
         Ok(())
     } else {

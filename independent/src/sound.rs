@@ -25,7 +25,7 @@ pub fn sound(t: &Tool) -> bool {
 }
 
 #[inline]
-fn all_zero(bytes: &[u8]) -> bool {
+pub(crate) fn all_zero(bytes: &[u8]) -> bool {
     bytes.iter().fold(0, |sum, byte| sum | byte) == 0
 }
 

@@ -2,6 +2,7 @@
 
 mod inputs;
 mod parts;
+pub mod requests;
 mod tools;
 
 use std::vec::Vec;

@@ -1,0 +1,48 @@
+//! Inputs and states for the tool with requests: document 01's, and what each request adds.
+
+mod maps;
+
+use std::string::String;
+
+use super::{Input, Rng};
+use crate::requests::{Tool, UNUSED};
+
+/// An input for this state, as a run might meet it.
+pub fn random_run_input(t: &Tool, rng: &mut Rng) -> Input {
+    let mut input = super::random_run_input(&t.base, rng);
+    maps::complete(t, &mut input, rng);
+    input
+}
+
+/// A sound state drawn widely: anything that the words on soundness allow may come out, whether or
+/// not a run reaches it.
+pub fn random_sound_tool(rng: &mut Rng) -> Tool {
+    let mut t = Tool { base: super::random_sound_tool(rng), ..Tool::NONE };
+    maps::draw(&mut t, rng);
+    assert!(crate::requests::sound(&t), "not sound: {}", describe(&t));
+    t
+}
+
+/// Damages what the requests hold for a tool. What comes out may still be sound.
+pub fn damage(t: &mut Tool, rng: &mut Rng) {
+    if rng.chance(20) {
+        let at = match rng.below(3) {
+            0 => 0,
+            1 => UNUSED as u32 - 1,
+            _ => rng.below(UNUSED as u32),
+        };
+        t.unused[at as usize] = rng.pick(&[1, 1, 3, 0x80, 0xFF]);
+    } else {
+        maps::damage(t, rng);
+    }
+}
+
+/// A state in a few lines, for a failing test.
+pub fn describe(t: &Tool) -> String {
+    let mut out = super::describe(&t.base);
+    maps::describe(t, &mut out);
+    if t.unused.iter().any(|&byte| byte != 0) {
+        out.push_str("  unused bytes aren't zero\n");
+    }
+    out
+}

@@ -1,0 +1,60 @@
+//! The requests' words in the plainest form, to compare the library with: what is kept for a record
+//! is looked up by its name.
+
+use independent::gen::{padded, Input};
+use independent::requests::Tool;
+use independent::{Plain, Reports};
+
+use crate::common::{plain_reports, plainly_sound as plainly_sound_before};
+
+/// Document 01's words; each record has 0 or 25 codes of 1 and 3; unused bytes are zero.
+pub fn plainly_sound(t: &Tool) -> bool {
+    plainly_sound_before(&t.base)
+        && t.maps.iter().enumerate().all(|(i, map)| {
+            let none = map.iter().all(|&code| code == 0);
+            let some = map.iter().all(|&code| code == 1 || code == 3);
+            if i < t.base.count as usize {
+                none || some
+            } else {
+                none
+            }
+        })
+        && t.unused.iter().all(|&byte| byte == 0)
+}
+
+/// The map that a name's record keeps; empty where it has none.
+fn map_of(t: &Tool, name: [u8; 16]) -> Option<Vec<u8>> {
+    let i = t.base.carriers().iter().position(|c| c.name == name)?;
+    Some(if t.maps[i][0] == 0 { Vec::new() } else { t.maps[i].to_vec() })
+}
+
+/// What an input gives from a sound state: document 01's answer and state, but for the words of the
+/// requests.
+pub fn plain_step(before: &Tool, i: &Input) -> (u32, Tool, Reports) {
+    let carries_map = i.number == 1 || i.number == 3;
+    let good = i.codes.is_empty() || i.codes.len() == 25 && i.codes.iter().all(|code| [1, 3].contains(code));
+    if carries_map && !good {
+        return (1, *before, Reports::NONE);
+    }
+    let mut base = before.base;
+    let mut reports = Reports::NONE;
+    let answer = independent::step(&mut base, i.number, i.port, i.value, &i.name, &i.codes, &mut reports);
+    if answer != 0 {
+        return (answer, *before, Reports::NONE);
+    }
+    if i.number == 20 && map_of(before, padded(&i.name)).unwrap() == i.codes {
+        base.carrier.iter_mut().find(|c| c.name == padded(&i.name)).unwrap().slot = 3;
+    }
+    let mut after = Tool { base, ..Tool::NONE };
+    for (k, c) in base.carriers().iter().enumerate() {
+        let new = if carries_map { i.codes.clone() } else { Vec::new() };
+        let map = map_of(before, c.name).unwrap_or(new);
+        after.maps[k][..map.len()].copy_from_slice(&map);
+    }
+    (0, after, plain_reports(&before.base, &base))
+}
+
+/// The bytes of a state, so that a difference is one of bytes.
+pub fn same(t: &Tool, other: &Tool) -> bool {
+    t.bytes() == other.bytes()
+}
