@@ -1,8 +1,9 @@
 //! The two programs behind one face: the proved machine, by its C interface, and the independent program.
 
-use hawsermole::raw;
+use hawsermole::raw::{self, REPORTS_BYTES, TOOL_BYTES};
 use independent::gen::Input;
-use independent::{Plain, Reports, Tool};
+use independent::requests::{self, Tool};
+use independent::{Plain, Reports};
 
 pub trait Machine {
     fn setup(&self, ports: u32, places: u32, tool: &mut Tool) -> u32;
@@ -16,7 +17,8 @@ pub struct Proved(());
 impl Proved {
     /// Nothing if the archive has other sizes than the structs that are lent to it.
     pub fn new() -> Option<Proved> {
-        raw::sizes_agree().then_some(Proved(()))
+        let lent = (size_of::<Tool>(), size_of::<Reports>());
+        (raw::sizes_agree() && lent == (TOOL_BYTES, REPORTS_BYTES)).then_some(Proved(()))
     }
 }
 
@@ -42,20 +44,20 @@ fn lent<const N: usize>(to: &mut impl Plain) -> &mut [u8; N] {
     to.bytes_mut().try_into().expect("as many bytes as the archive's")
 }
 
-/// The program written from document 01 without sight of the code.
+/// The program written from the documents without sight of the code.
 pub struct Independent;
 
 impl Machine for Independent {
     fn setup(&self, ports: u32, places: u32, tool: &mut Tool) -> u32 {
-        independent::setup(ports, places, tool)
+        requests::setup(ports, places, tool)
     }
 
     fn step(&self, tool: &mut Tool, input: &Input, reports: &mut Reports) -> u32 {
-        independent::step(tool, input.number, input.port, input.value, &input.name, &input.codes, reports)
+        requests::step(tool, input.number, input.port, input.value, &input.name, &input.codes, reports)
     }
 
     fn sound(&self, tool: &Tool) -> u32 {
-        independent::sound(tool) as u32
+        requests::sound(tool) as u32
     }
 }
 

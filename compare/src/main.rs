@@ -4,6 +4,7 @@
 //!
 //! `compare [N]`: some N inputs in each of the large parts; 100,000 where no N is given.
 
+mod laws;
 mod machine;
 mod pairs;
 mod parts;
@@ -20,7 +21,7 @@ use independent::gen::Rng;
 use machine::{Both, Independent, Proved};
 use pairs::{allowed, Pairs};
 use parts::damaged::Damage;
-use parts::{damaged, edges, odd, runs, setups, states, twelve};
+use parts::{damaged, edges, maps, odd, runs, setups, states, twelve};
 use play::{Finding, Tally};
 
 const SEED: u64 = 20_870_312;
@@ -59,20 +60,23 @@ struct Table {
     inputs: u64,
     along_runs: Pairs,
     runs_accepted: f64,
+    /// Slot maps that were OK at once, along the runs and from states.
+    at_once: [u64; 2],
 }
 
 impl Table {
     fn line(&mut self, part: &str, tally: &Tally) {
         self.inputs += tally.inputs;
         let (inputs, accepted, pairs) = (tally.inputs, tally.percent(), tally.pairs.met());
-        println!("{part:<44}{inputs:>10}{accepted:>9.1} %{pairs:>7}");
+        println!("{part:<44}{inputs:>10}{accepted:>9.1} %{pairs:>7}{:>10}", tally.at_once);
     }
 
     fn damage(&mut self, part: &str, damage: &Damage) {
         self.line(&format!("{part}, {} still sound", damage.sound), &damage.tally);
     }
 
-    /// The last line; a failure where the runs left a pair out, or accepted little.
+    /// The last lines; a failure where the runs left a pair out or accepted little, or where no slot map was OK at
+    /// once.
     fn end(&self) -> ExitCode {
         let missing = self.along_runs.missing();
         if !missing.is_empty() {
@@ -82,9 +86,14 @@ impl Table {
         if self.runs_accepted < LEAST_ACCEPTED {
             println!("TOO FEW ACCEPTED along the runs: {:.1} %", self.runs_accepted);
         }
+        if self.at_once.contains(&0) {
+            println!("NO SLOT MAP was OK at once along the runs, or none from states");
+        }
+        let [runs, states] = self.at_once;
+        println!("{runs} slot maps were OK at once along the runs, {states} from random sound states");
         let (met, all, inputs) = (self.along_runs.met(), allowed(), self.inputs);
         println!("{met} of {all} pairs of row and answer met along the runs; {inputs} inputs compared, no difference");
-        if missing.is_empty() && self.runs_accepted >= LEAST_ACCEPTED {
+        if missing.is_empty() && self.runs_accepted >= LEAST_ACCEPTED && !self.at_once.contains(&0) {
             ExitCode::SUCCESS
         } else {
             ExitCode::FAILURE
@@ -95,14 +104,17 @@ impl Table {
 fn compare(both: &Both, total: u64) -> Result<Table, Finding> {
     let mut table = Table::default();
     let mut rng = Rng::new(SEED);
-    println!("{:<44}{:>10}{:>11}{:>7}", "part", "inputs", "accepted", "pairs");
+    println!("{:<44}{:>10}{:>11}{:>7}{:>10}", "part", "inputs", "accepted", "pairs", "at once");
     table.line("the twelve rows", &twelve::compare(both)?);
     table.line("document 01's edges", &edges::compare(both)?);
+    table.line("slot maps the tool can judge", &maps::compare(both)?);
     table.line("set-ups in and out of range", &setups::compare(both, &mut rng)?);
     let along_runs = runs::compare(both, total, &mut rng)?;
     table.line("random runs, every P and B", &along_runs);
     (table.along_runs, table.runs_accepted) = (along_runs.pairs, along_runs.percent());
-    table.line("inputs from random sound states", &states::compare(both, total, &mut rng)?);
+    let from_states = states::compare(both, total, &mut rng)?;
+    table.line("inputs from random sound states", &from_states);
+    table.at_once = [along_runs.at_once, from_states.at_once];
     table.damage("every byte damaged", &damaged::every_byte(both, total, &mut rng)?);
     table.damage("parts mixed up", &damaged::mixed_up(both, total / 4, &mut rng)?);
     table.damage("random bytes", &damaged::random_bytes(both, total / 8, &mut rng)?);

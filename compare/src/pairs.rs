@@ -1,4 +1,7 @@
 //! Which answers each row has given: document 01 allows 104 pairs of a row and an answer.
+//!
+//! P1 adds none: a map that can't be expected is 1, which rows 1 and 3 had already, and row 20 has no new number.
+//! That a slot map was OK at once shows in no pair, and is counted by itself.
 
 /// Each row's answers: 0, 1, and what its text in document 01 names.
 pub const ALLOWED: [&[u32]; 26] = [

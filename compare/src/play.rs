@@ -1,11 +1,12 @@
 //! Inputs given to both programs, counted, and what is found where they differ.
 
 use independent::gen::Input;
-use independent::Tool;
+use independent::requests::Tool;
 
+use crate::laws::unlawful;
 use crate::machine::{Both, Outcome};
-use crate::pairs::{may_answer, Pairs};
-use crate::script::Run;
+use crate::pairs::Pairs;
+use crate::script::{tabled, Run};
 
 /// What ends the comparison.
 #[derive(Debug)]
@@ -16,18 +17,20 @@ pub enum Finding {
     State(Box<Tool>, Input),
     /// One program calls the state sound and the other doesn't.
     Sound(Box<Tool>),
-    /// The programs agree, and document 01 says otherwise.
+    /// The programs agree, and the documents say otherwise.
     Document(Run, String),
     /// As `Document`, from a state that no run need reach.
     Law(Box<Tool>, Input, String),
 }
 
-/// How many inputs were compared, how many of them were accepted, and which pairs were met.
+/// How many inputs were compared, how many of them were accepted, which pairs were met, and how many slot maps
+/// were OK at once.
 #[derive(Clone, Copy, Default)]
 pub struct Tally {
     pub inputs: u64,
     pub accepted: u64,
     pub pairs: Pairs,
+    pub at_once: u64,
 }
 
 impl Tally {
@@ -35,6 +38,7 @@ impl Tally {
         self.inputs += 1;
         self.accepted += o.accepted() as u64;
         self.pairs.meet(input.number, o.answer);
+        self.at_once += ok_at_once(input, o) as u64;
     }
 
     pub fn percent(&self) -> f64 {
@@ -42,20 +46,10 @@ impl Tally {
     }
 }
 
-/// Why an outcome on which the programs agree is against document 01, whatever the row.
-pub fn unlawful(before: &Tool, input: &Input, o: &Outcome) -> Option<String> {
-    use independent::Plain;
-    if !may_answer(input.number, o.answer) {
-        return Some(format!("row {} has no answer {}", input.number, o.answer));
-    }
-    let past = o.reports.bytes().get(1 + 20 * o.reports.count as usize..);
-    if past.is_none_or(|entries| entries.iter().any(|&byte| byte != 0)) {
-        return Some("at most seven reports, and zeros past the count".into());
-    }
-    if !o.accepted() && (o.reports.count != 0 || o.tool.bytes() != before.bytes()) {
-        return Some("a refusal changes no state and leaves no report".into());
-    }
-    None
+/// A SlotMap that is accepted and reported as 6 N 1>3: no other input has this report.
+fn ok_at_once(input: &Input, o: &Outcome) -> bool {
+    let report = &o.reports.items[0];
+    input.number == 20 && o.accepted() && (report.model, report.old, report.new) == (6, 1, 3)
 }
 
 /// One input from any state to both programs.
@@ -113,14 +107,14 @@ impl<'a> Player<'a> {
         Ok(o)
     }
 
-    /// As `give`, where document 01 gives the answer.
+    /// As `give`, where the documents give the answer.
     pub fn expect(&mut self, input: Input, answer: u32) -> Result<Outcome, Finding> {
         let o = self.give(input)?;
         self.demand(o.answer == answer, || format!("the last input is answered {answer}, not {}", o.answer))?;
         Ok(o)
     }
 
-    /// As `look`, where document 01 gives the answer.
+    /// As `look`, where the documents give the answer.
     pub fn expect_look(&mut self, input: &Input, answer: u32) -> Result<(), Finding> {
         let o = self.look(input)?;
         if o.answer != answer {
@@ -130,7 +124,19 @@ impl<'a> Player<'a> {
         Ok(())
     }
 
-    /// Document 01 asks for what holds; `why` says what that is.
+    /// As `look` at an input that is accepted, where the documents give the reports.
+    pub fn expect_reports(&mut self, input: &Input, reports: &str) -> Result<(), Finding> {
+        let o = self.look(input)?;
+        let told = tabled(&o.reports);
+        if !o.accepted() || told != reports {
+            let why =
+                format!("the last input is answered 0 and reports {reports}, not {} and {told}", o.answer);
+            return Err(Finding::Document(self.with(input), why));
+        }
+        Ok(())
+    }
+
+    /// The documents ask for what holds; `why` says what that is.
     pub fn demand(&self, holds: bool, why: impl FnOnce() -> String) -> Result<(), Finding> {
         if holds {
             Ok(())

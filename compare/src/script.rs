@@ -3,7 +3,8 @@
 use std::fmt::Write;
 
 use independent::gen::Input;
-use independent::{Reports, Tool};
+use independent::requests::Tool;
+use independent::{Plain, Reports};
 
 use crate::machine::Outcome;
 
@@ -76,11 +77,13 @@ const HEAD: usize = 3;
 const PORT: usize = size_of::<independent::Port>();
 const CARRIER: usize = size_of::<independent::Carrier>();
 const CARRIERS: usize = HEAD + 4 * PORT;
+const MAPS: usize = size_of::<independent::Tool>();
+const MAP: usize = 25;
 
-/// A tool's bytes: its head, its ports, then the records up to the last that isn't zero.
+/// A tool's bytes: its head, its ports, the records up to the last that isn't zero, the expected maps, and what is
+/// not zero of the bytes that should be.
 pub fn bytes(tool: &Tool) -> String {
-    use independent::Plain;
-    let all = tool.bytes();
+    let all = tool.base.bytes();
     let mut out = format!("  head      {}\n", hex(&all[..HEAD]));
     for (p, port) in all[HEAD..CARRIERS].chunks(PORT).enumerate() {
         let _ = writeln!(out, "  port {}    {}", p + 1, hex(port));
@@ -89,6 +92,13 @@ pub fn bytes(tool: &Tool) -> String {
     let used = records.iter().rposition(|r| r.iter().any(|&byte| byte != 0)).map_or(0, |last| last + 1);
     for (k, record) in records[..used].iter().enumerate() {
         let _ = writeln!(out, "  record {:<2} {}", k + 1, hex(record));
+    }
+    for (k, map) in tool.maps.iter().enumerate().filter(|(_, map)| **map != [0; MAP]) {
+        let name = hex(unpadded(&tool.base.carrier[k].name));
+        let _ = writeln!(out, "  map {name} {} (record {})", hex(map), k + 1);
+    }
+    if let Some(last) = tool.unused.iter().rposition(|&byte| byte != 0) {
+        let _ = writeln!(out, "  unused    {}", hex(&tool.unused[..=last]));
     }
     let _ = writeln!(out, "  and zeros to the end");
     out
@@ -108,6 +118,10 @@ pub fn field(at: usize) -> String {
         };
         return format!("port {} {what}", p + 1);
     }
+    if at >= MAPS {
+        let k = (at - MAPS) / MAP;
+        return if k < 36 { format!("record {} expected map", k + 1) } else { "unused".into() };
+    }
     let (k, at) = ((at - CARRIERS) / CARRIER, (at - CARRIERS) % CARRIER);
     let what = match at {
         0..=15 => "name",
@@ -121,7 +135,7 @@ pub fn field(at: usize) -> String {
 #[cfg(test)]
 mod tests {
     use super::*;
-    use independent::{setup, step, Plain};
+    use independent::requests::{setup, step};
 
     #[test]
     fn lines_are_the_command_lines() {
@@ -149,17 +163,41 @@ mod tests {
     fn bytes_have_names() {
         let mut tool = Tool::NONE;
         let named = |tool: &Tool| field(tool.bytes().iter().position(|&b| b != 0).unwrap());
-        tool.carrier[35].accessing = 1;
-        assert_eq!(named(&tool), "record 36 accessing");
-        tool.carrier[1].map[24] = 1;
-        assert_eq!(named(&tool), "record 2 map");
-        tool.carrier[1].came_out = 1;
-        assert_eq!(named(&tool), "record 2 came-out");
-        tool.port[3].movement = 1;
-        assert_eq!(named(&tool), "port 4 movement");
-        tool.port[0].tie[0] = 1;
-        assert_eq!(named(&tool), "port 1 tie");
-        tool.count = 1;
-        assert_eq!(named(&tool), "count");
+        tool.unused[0] = 1;
+        assert_eq!(named(&tool), "unused");
+        tool.maps[35][24] = 1;
+        assert_eq!(named(&tool), "record 36 expected map");
+        tool.maps[0][0] = 1;
+        assert_eq!(named(&tool), "record 1 expected map");
+        let base = |change: fn(&mut independent::Tool)| {
+            let mut tool = tool;
+            change(&mut tool.base);
+            named(&tool)
+        };
+        assert_eq!(base(|tool| tool.carrier[35].accessing = 1), "record 36 accessing");
+        assert_eq!(base(|tool| tool.carrier[1].map[24] = 1), "record 2 map");
+        assert_eq!(base(|tool| tool.carrier[1].came_out = 1), "record 2 came-out");
+        assert_eq!(base(|tool| tool.port[3].movement = 1), "port 4 movement");
+        assert_eq!(base(|tool| tool.port[0].tie[0] = 1), "port 1 tie");
+        assert_eq!(base(|tool| tool.count = 1), "count");
+    }
+
+    #[test]
+    fn maps_are_shown_with_their_names() {
+        let mut tool = Tool::NONE;
+        setup(1, 0, &mut tool);
+        let shown = |tool: &Tool| bytes(tool).lines().map(String::from).collect::<Vec<_>>();
+        let plain = shown(&tool);
+        assert_eq!((plain.len(), plain[5].as_str()), (6, "  and zeros to the end"));
+        for (name, codes) in [(b"AB", &[3; 25][..]), (b"AC", &[]), (b"AD", &[1; 25])] {
+            step(&mut tool, 3, 0, 0, name, codes, &mut Reports::NONE.clone());
+        }
+        tool.maps[35][1] = 2;
+        tool.unused[2] = 255;
+        let lines = shown(&tool);
+        assert_eq!(lines[8], format!("  map 4142 {} (record 1)", "03".repeat(25)));
+        assert_eq!(lines[9], format!("  map 4144 {} (record 3)", "01".repeat(25)));
+        assert_eq!(lines[10], format!("  map - 0002{} (record 36)", "00".repeat(23)));
+        assert_eq!(lines[11..], ["  unused    0000ff", "  and zeros to the end"]);
     }
 }

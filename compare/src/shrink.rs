@@ -1,13 +1,14 @@
 //! The shortest script that still shows a difference.
 
 use independent::gen::Input;
-use independent::{Carrier, Tool};
+use independent::requests::Tool;
+use independent::Carrier;
 
+use crate::laws::unlawful;
 use crate::machine::{Both, Outcome};
-use crate::play::unlawful;
 use crate::script::Run;
 
-/// After how many inputs of the run the programs differ, or are both against document 01:
+/// After how many inputs of the run the programs differ, or are both against the documents:
 /// 0 where they differ at the set-up.
 pub fn differs_after(both: &Both, run: &Run) -> Option<usize> {
     let Some((_, mut tool)) = both.setup(run.ports, run.places) else {
@@ -48,6 +49,7 @@ pub fn shortest(both: &Both, run: &Run) -> Run {
         drop_twos(both, &mut best);
         rename(both, &mut best);
         shrink_setup(both, &mut best);
+        plainer_maps(both, &mut best);
         plainer_inputs(both, &mut best);
         if best == before {
             return best;
@@ -137,6 +139,18 @@ fn rename(both: &Both, best: &mut Run) {
     take(both, best, candidate);
 }
 
+/// A 1 at one slot of all maps at once: those that agree there go on to agree.
+fn plainer_maps(both: &Both, best: &mut Run) {
+    for slot in 0..25 {
+        let mut candidate = best.clone();
+        let maps =
+            candidate.inputs.iter_mut().map(|input| &mut input.codes).filter(|codes| codes.len() == 25);
+        if maps.filter(|map| map[slot] > 1).map(|map| map[slot] = 1).count() > 0 {
+            take(both, best, candidate);
+        }
+    }
+}
+
 /// The same input with one part left out or made small.
 fn plainer(input: &Input) -> Vec<Input> {
     let with = |port, value, name: &[u8], codes: &[u8]| Input {
@@ -151,6 +165,7 @@ fn plainer(input: &Input) -> Vec<Input> {
         with(port, value, name, &[]),
         with(port, value, name, &codes[..codes.len() / 2]),
         with(port, value, name, &vec![0; codes.len()]),
+        with(port, value, name, &vec![1; codes.len()]),
         with(port, value, &[], codes),
         with(port, value, b"A", codes),
         with(port, value, &name[..name.len() / 2], codes),
@@ -160,8 +175,8 @@ fn plainer(input: &Input) -> Vec<Input> {
         with(port, 1, name, codes),
     ];
     let size = |i: &Input| {
-        let large = i.codes.iter().filter(|&&code| code != 0).count();
-        (i.codes.len(), large, i.name.len(), i.port, i.value)
+        let sum: u32 = i.codes.iter().map(|&code| code as u32).sum();
+        (i.codes.len(), sum, i.name.len(), i.port, i.value)
     };
     all.into_iter().filter(|one| size(one) < size(input)).collect()
 }
@@ -182,31 +197,41 @@ fn plainer_inputs(both: &Both, best: &mut Run) {
     }
 }
 
-/// The state without record `i` and its tie; sound if the state was.
+/// The state without record `i`, its tie and its map; sound if the state was.
 fn without(tool: &Tool, i: usize) -> Tool {
     let mut tool = *tool;
-    let port = tool.carrier[i].port as usize;
-    if let Some(port) = port.checked_sub(1).and_then(|p| tool.port.get_mut(p)) {
+    let base = &mut tool.base;
+    let port = base.carrier[i].port as usize;
+    if let Some(port) = port.checked_sub(1).and_then(|p| base.port.get_mut(p)) {
         port.tie = [0; 16];
     }
-    let count = tool.count as usize;
-    tool.carrier.copy_within(i + 1..count, i);
-    tool.carrier[count - 1] = Carrier::UNUSED;
-    tool.count -= 1;
+    let count = base.count as usize;
+    base.carrier.copy_within(i + 1..count, i);
+    base.carrier[count - 1] = Carrier::UNUSED;
+    base.count -= 1;
+    tool.maps.copy_within(i + 1..count, i);
+    tool.maps[count - 1] = [0; 25];
     tool
 }
 
-/// A state with fewer records that shows a difference still.
+/// A state with fewer records and maps that shows a difference still.
 pub fn smallest(tool: &Tool, differs: impl Fn(&Tool) -> bool) -> Tool {
     let mut best = *tool;
-    let mut i = (best.count as usize).min(best.carrier.len());
+    let mut i = (best.base.count as usize).min(best.base.carrier.len());
     while i > 0 {
         i -= 1;
-        if best.count as usize <= best.carrier.len() {
+        if best.base.count as usize <= best.base.carrier.len() {
             let candidate = without(&best, i);
             if differs(&candidate) {
                 best = candidate;
             }
+        }
+    }
+    for i in 0..best.maps.len() {
+        let mut candidate = best;
+        candidate.maps[i] = [0; 25];
+        if differs(&candidate) {
+            best = candidate;
         }
     }
     best

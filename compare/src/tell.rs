@@ -3,7 +3,8 @@
 use std::fmt::Write;
 
 use independent::gen::Input;
-use independent::{Plain, Tool};
+use independent::requests::Tool;
+use independent::Plain;
 
 use crate::machine::{outcome, set_up, Both, Outcome};
 use crate::play::Finding;
@@ -16,10 +17,10 @@ pub fn tell(both: &Both, finding: &Finding) -> String {
         Finding::State(tool, input) => tell_state(both, tool, input),
         Finding::Sound(tool) => tell_sound(both, tool),
         Finding::Document(run, why) => {
-            format!("BOTH ARE AGAINST DOCUMENT 01: {why}. The script:\n{}", shortest(both, run).script())
+            format!("BOTH ARE AGAINST THE DOCUMENTS: {why}. The script:\n{}", shortest(both, run).script())
         }
         Finding::Law(tool, input, why) => {
-            format!("BOTH ARE AGAINST DOCUMENT 01: {why}. From the state\n{}{}\n", bytes(tool), line(input))
+            format!("BOTH ARE AGAINST THE DOCUMENTS: {why}. From the state\n{}{}\n", bytes(tool), line(input))
         }
     }
 }

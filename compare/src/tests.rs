@@ -1,10 +1,12 @@
 //! Programs that are wrong on purpose, and the scripts that must be found for them.
 
-use independent::gen::{random_run_input, Input, Rng};
-use independent::{Report, Reports, Tool};
+use independent::gen::requests::random_run_input;
+use independent::gen::{Input, Rng};
+use independent::requests::Tool;
+use independent::{Report, Reports};
 
 use crate::machine::{Both, Independent, Machine, Outcome};
-use crate::parts::{damaged, edges, odd, runs, setups, states, twelve};
+use crate::parts::{damaged, edges, maps, odd, runs, setups, states, twelve};
 use crate::play::{Finding, Player, Tally};
 use crate::script::Run;
 use crate::shrink::{differs_after, shortest};
@@ -84,7 +86,7 @@ fn found(ports: u32, places: u32, fault: impl Fn(&Tool, &Input, &mut Outcome)) -
 fn a_fault_in_the_state_takes_two_inputs() {
     let run = found(4, 16, |_, input, o| {
         if input.number == 15 && o.accepted() {
-            o.tool.port[input.port as usize - 1].reserved = 1;
+            o.tool.base.port[input.port as usize - 1].reserved = 1;
         }
     });
     assert_eq!(run.script(), "setup 1 0\nin 13 1 0 - -\nin 15 1 0 - -\n");
@@ -105,8 +107,9 @@ fn a_lost_report_takes_four_inputs() {
 fn a_wrong_answer_deep_in_a_run_takes_seven_inputs() {
     let run = found(4, 16, |before, input, o| {
         let named = |c: &&independent::Carrier| independent::gen::unpadded(&c.name) == input.name;
-        let cancelled = before.carriers().iter().find(named).is_some_and(|c| c.cancelled == 1 && c.id == 3);
-        if input.number == 19 && o.answer == 7 && cancelled && before.places > 0 {
+        let cancelled =
+            before.base.carriers().iter().find(named).is_some_and(|c| c.cancelled == 1 && c.id == 3);
+        if input.number == 19 && o.answer == 7 && cancelled && before.base.places > 0 {
             o.answer = 0;
         }
     });
@@ -141,6 +144,7 @@ fn first_finding(both: &Both) -> Option<Finding> {
     let mut all = || -> Result<(), Finding> {
         twelve::compare(both)?;
         edges::compare(both)?;
+        maps::compare(both)?;
         setups::compare(both, &mut rng)?;
         runs::compare(both, 5_000, &mut rng)?;
         states::compare(both, 5_000, &mut rng)?;
@@ -158,7 +162,7 @@ fn two_programs_that_agree_show_nothing() {
     assert!(first_finding(&Both { proved: &Independent, independent: &Independent }).is_none());
 }
 
-/// Why document 01 is against two programs that are wrong alike.
+/// Why the documents are against two programs that are wrong alike.
 fn against(
     fault: impl Fn(&Tool, &Input, &mut Outcome),
     part: impl Fn(&Both, &mut Rng) -> Result<(), Finding>,
@@ -172,7 +176,7 @@ fn against(
 }
 
 #[test]
-fn both_wrong_alike_is_against_document_01() {
+fn both_wrong_alike_is_against_the_documents() {
     let why = against(
         |_, input, o| o.answer = if input.number == 18 && o.answer == 1 { 5 } else { o.answer },
         |both, _| edges::compare(both).map(drop),
@@ -184,7 +188,7 @@ fn both_wrong_alike_is_against_document_01() {
     );
     assert_eq!(why, "the last input reports 1 1 1>3; 3 1 1>0, not 1 1 1>2; 3 1 1>0");
     let why = against(
-        |_, _, o| o.tool.port[3].tag ^= (o.answer == 8) as u8,
+        |_, _, o| o.tool.base.port[3].tag ^= (o.answer == 8) as u8,
         |both, rng| runs::compare(both, 5_000, rng).map(drop),
     );
     assert_eq!(why, "a refusal changes no state and leaves no report");
@@ -200,23 +204,25 @@ fn both_wrong_alike_is_against_document_01() {
 
 /// Such a run is shrunk too.
 #[test]
-fn a_run_against_document_01_is_short() {
+fn a_run_against_the_documents_is_short() {
     let wrong =
         Faulty(|_, input, o| o.answer = if input.number == 13 && o.answer == 5 { 8 } else { o.answer });
-    let spoils = Faulty(|_, input, o| o.tool.port[0].tag += 7 * (input.number == 13 && o.accepted()) as u8);
+    let spoils =
+        Faulty(|_, input, o| o.tool.base.port[0].tag += 7 * (input.number == 13 && o.accepted()) as u8);
     for (faulty, lines) in [(&wrong as &dyn Machine, 3), (&spoils, 2)] {
         let both = Both { proved: faulty, independent: faulty };
         let finding = runs::compare(&both, 5_000, &mut Rng::new(5)).err().expect("a finding");
         let told = tell(&both, &finding);
-        assert!(told.starts_with("BOTH ARE AGAINST DOCUMENT 01"), "{told}");
+        assert!(told.starts_with("BOTH ARE AGAINST THE DOCUMENTS"), "{told}");
         assert_eq!(told.lines().count(), 1 + lines, "{told}");
     }
 }
 
 #[test]
-fn unsound_states_are_against_document_01() {
+fn unsound_states_are_against_the_documents() {
     let spoils = |_: &Tool, input: &Input, o: &mut Outcome| {
-        o.tool.port[0].tag = if input.number == 13 && o.accepted() { 7 } else { o.tool.port[0].tag };
+        o.tool.base.port[0].tag =
+            if input.number == 13 && o.accepted() { 7 } else { o.tool.base.port[0].tag };
     };
     let why = against(spoils, |both, rng| runs::compare(both, 5_000, rng).map(drop));
     assert_eq!(why, "every state that a run reaches is sound");
@@ -224,7 +230,7 @@ fn unsound_states_are_against_document_01() {
     assert_eq!(why, "a sound state is followed by a sound one");
     let why = against(
         |before, input, o| {
-            o.answer = if independent::sound(before) || input.number != 10 { o.answer } else { 4 }
+            o.answer = if independent::requests::sound(before) || input.number != 10 { o.answer } else { 4 }
         },
         |both, rng| damaged::every_byte(both, 1, rng).map(drop),
     );
@@ -264,7 +270,7 @@ fn a_cut_number_is_found() {
 fn a_fault_of_soundness_is_shown_with_the_bytes() {
     let tool = |tool: &Tool| {
         let mut mended = *tool;
-        mended.carrier.iter_mut().for_each(|c| c.came_out &= 1);
+        mended.base.carrier.iter_mut().for_each(|c| c.came_out &= 1);
         mended
     };
     let trusts = Mistaken { tool, ..Mistaken::IN_NOTHING };
@@ -279,7 +285,7 @@ fn a_fault_of_soundness_is_shown_with_the_bytes() {
 fn a_fault_that_no_run_reaches_is_shown_with_the_bytes() {
     // READY TO UNLOAD without a pod.
     let faulty = Faulty(|before, input, o| {
-        let port = before.port.get((input.port as usize).wrapping_sub(1));
+        let port = before.base.port.get((input.port as usize).wrapping_sub(1));
         let odd = port.is_some_and(|p| p.transfer == 2 && p.pod == 0);
         if input.number == 24 && odd && o.accepted() {
             o.answer = 5;

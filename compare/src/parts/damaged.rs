@@ -1,7 +1,9 @@
 //! Damaged states: each is sound to both programs or to neither, and one that isn't is answered 1 with nothing changed.
 
-use independent::gen::{random_run_input, random_sound_tool, Input, Rng};
-use independent::{Plain, Tool};
+use independent::gen::requests::{damage as damage_requests, random_run_input, random_sound_tool};
+use independent::gen::{Input, Rng};
+use independent::requests::Tool;
+use independent::Plain;
 
 use crate::machine::Both;
 use crate::play::{from_state, Finding, Tally};
@@ -11,6 +13,9 @@ const VALUES: [u8; 13] = [0, 1, 2, 3, 4, 5, 6, 17, 0x20, 0x41, 0x7E, 0x7F, 255];
 
 /// Inputs from one tool, each with one byte changed.
 const EACH: usize = size_of::<Tool>() * (VALUES.len() + 3);
+
+/// The bytes of document 01's tool, with which a tool begins.
+const BASE: usize = size_of::<independent::Tool>();
 
 /// What was tried, and how many of the states were sound.
 #[derive(Default)]
@@ -44,7 +49,8 @@ pub fn every_byte(both: &Both, total: u64, rng: &mut Rng) -> Result<Damage, Find
     Ok(damage)
 }
 
-/// Sound tools in which one record or port has a part of another, so that names, places or ties no longer agree.
+/// Sound tools in which one record or port has a part of another, so that names, places or ties no longer agree; or
+/// in which a map, or a byte that is unused, isn't as it should be.
 pub fn mixed_up(both: &Both, total: u64, rng: &mut Rng) -> Result<Damage, Finding> {
     let mut damage = Damage::default();
     while damage.tally.inputs < total {
@@ -52,7 +58,11 @@ pub fn mixed_up(both: &Both, total: u64, rng: &mut Rng) -> Result<Damage, Findin
         for _ in 0..8 {
             let mut tool = whole;
             for _ in 0..1 + rng.below(2) {
-                mix_up(&mut tool, rng);
+                if rng.chance(35) {
+                    damage_requests(&mut tool, rng);
+                } else {
+                    mix_up(&mut tool.base, rng);
+                }
             }
             one(both, &mut damage, &tool, &some_input(&whole, rng))?;
         }
@@ -73,7 +83,11 @@ pub fn random_bytes(both: &Both, total: u64, rng: &mut Rng) -> Result<Damage, Fi
         }
         if rng.chance(50) {
             let used = 3 + 4 * 22 + 50 * bytes[2].min(36) as usize;
-            bytes[used..].fill(0);
+            bytes[used..BASE].fill(0);
+            // Half of these are sound behind document 01's tool.
+            if rng.chance(50) {
+                bytes[BASE..].fill(0);
+            }
         }
         one(both, &mut damage, &tool_of(&bytes), &some_input(&Tool::NONE, rng))?;
     }
@@ -87,7 +101,7 @@ fn tool_of(bytes: &[u8]) -> Tool {
 /// A random sound tool with as many records as some hundred draws give.
 fn most_records(rng: &mut Rng) -> Tool {
     let draws = (0..200).map(|_| random_sound_tool(rng));
-    draws.max_by_key(|tool| tool.count).expect("some draws")
+    draws.max_by_key(|tool| tool.base.count).expect("some draws")
 }
 
 /// Whether a state is sound, and an input from it.
@@ -114,7 +128,7 @@ fn some_input(whole: &Tool, rng: &mut Rng) -> Input {
 }
 
 /// A part of one record or port goes to another.
-fn mix_up(tool: &mut Tool, rng: &mut Rng) {
+fn mix_up(tool: &mut independent::Tool, rng: &mut Rng) {
     let (from, to) = (rng.below(tool.count as u32 + 1) as usize, rng.below(tool.count as u32 + 1) as usize);
     let (p, q) = (rng.below(4) as usize, rng.below(4) as usize);
     let (from, to) = (from.min(35), to.min(35));

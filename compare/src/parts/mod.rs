@@ -2,6 +2,7 @@
 
 pub mod damaged;
 pub mod edges;
+pub mod maps;
 pub mod odd;
 pub mod runs;
 pub mod setups;

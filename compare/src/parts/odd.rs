@@ -1,7 +1,8 @@
 //! Odd numbers for number, port and value, names of up to 300 bytes of every value,
 //! and codes of every length and value.
 
-use independent::gen::{random_run_input, Input, Rng};
+use independent::gen::requests::random_run_input;
+use independent::gen::{Input, Rng};
 
 use super::{at, input, named, LOST, ODD};
 use crate::machine::Both;

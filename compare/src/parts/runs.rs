@@ -1,6 +1,7 @@
 //! Long random runs for every P and B.
 
-use independent::gen::{random_run_input, Rng};
+use independent::gen::requests::random_run_input;
+use independent::gen::Rng;
 
 use crate::machine::Both;
 use crate::play::{Finding, Player, Tally};

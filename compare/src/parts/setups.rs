@@ -1,6 +1,7 @@
 //! Set-ups of every P and B in and out of range, and of odd numbers.
 
-use independent::gen::{random_run_input, Rng};
+use independent::gen::requests::random_run_input;
+use independent::gen::Rng;
 use independent::Plain;
 
 use super::{named, LOST, ODD};

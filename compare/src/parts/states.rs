@@ -1,7 +1,8 @@
 //! Single inputs from random sound states, odd ones among them that no run reaches.
 
-use independent::gen::{random_run_input, random_sound_tool, Input, Rng};
-use independent::Tool;
+use independent::gen::requests::{random_run_input, random_sound_tool};
+use independent::gen::{Input, Rng};
+use independent::requests::Tool;
 
 use crate::machine::Both;
 use crate::play::{from_state, Finding, Tally};

@@ -19,7 +19,7 @@ const NO_MAP: [u8; 25] = [0; 25];
 
 /// A map that is neither all ones nor all threes, another for each `k`.
 fn mixed(k: usize) -> [u8; 25] {
-    core::array::from_fn(|slot| if (slot + k) % (2 + k) == 0 { 1 } else { 3 })
+    core::array::from_fn(|slot| if (slot + k).is_multiple_of(2 + k) { 1 } else { 3 })
 }
 
 fn tool(p: u32, b: u32) -> Tool {
