@@ -1,5 +1,7 @@
 //! Programs that are wrong on purpose, and the scripts that must be found for them.
 
+mod wrong_maps;
+
 use independent::gen::requests::random_run_input;
 use independent::gen::{Input, Rng};
 use independent::requests::Tool;

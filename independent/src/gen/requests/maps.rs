@@ -26,6 +26,9 @@ pub(super) fn complete(t: &Tool, input: &mut Input, rng: &mut Rng) {
             (None, 15..=24) => input.codes = std::vec![0; MAP_LEN],
             _ => {}
         },
+        // The other rows that make a record look at no map, nor does any other.
+        5 | 6 | 16 if rng.chance(25) => input.codes = expected_map(rng),
+        _ if rng.chance(3) => input.codes = expected_map(rng),
         _ => {}
     }
 }
