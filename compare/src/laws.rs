@@ -1,6 +1,6 @@
 //! What the documents say of every outcome, whatever the state: two programs that are wrong alike are found by it.
 
-use independent::gen::{padded, Input};
+use independent::gen::{unpadded, Input};
 use independent::requests::Tool;
 use independent::Plain;
 
@@ -36,8 +36,7 @@ fn badly_judged(before: &Tool, input: &Input, o: &Outcome) -> Option<String> {
     if input.number != 20 || !o.accepted() {
         return None;
     }
-    let name = padded(&input.name);
-    let at = before.base.carriers().iter().position(|c| c.name == name)?;
+    let at = before.base.carrier.iter().position(|c| unpadded(&c.name) == input.name)?;
     let equal = before.expected_map(at).is_some_and(|map| map[..] == input.codes);
     let status = if equal { 3 } else { 2 };
     let reports = format!("6 {} 1>{status}", String::from_utf8_lossy(&input.name));
