@@ -16,7 +16,11 @@ static const uint8_t wafers[HM_SLOTS] = {3, 3, 3, 3, 3, 3, 3, 3, 3, 3, 3, 3, 3, 
 
 #define PLAIN HM_NOTHING, 0
 
-/* What host, sensors and tag reader would put in: document 01's run to check by hand. */
+/*
+ * What host, sensors and tag reader would put in: document 01's run to check by hand, and then a carrier whose slot map
+ * the host knows. It comes with Bind as the expected map, the slot map read is equal to it, and so AD may be accessed
+ * without asking the host. Where one slot differs, or where no map is expected as for AC, the host is asked.
+ */
 static const struct input queue[] = {
     {"Bind(1, AB)", HM_INPUT_BIND, 1, 0, "AB", PLAIN},
     {"LoadStart(1)", HM_INPUT_LOAD_START, 1, 0, "", PLAIN},
@@ -30,7 +34,17 @@ static const struct input queue[] = {
     {"ProceedWithCarrier(AC, 0)", HM_INPUT_PROCEED_WITH_CARRIER, 0, 0, "AC", PLAIN},
     {"AccessStart(AC)", HM_INPUT_ACCESS_START, 0, 0, "AC", PLAIN},
     {"CancelCarrier(AC, 0)", HM_INPUT_CANCEL_CARRIER, 0, 0, "AC", PLAIN},
+
+    {"Bind(2, AD, 25 threes)", HM_INPUT_BIND, 2, 0, "AD", wafers, sizeof wafers},
+    {"LoadStart(2)", HM_INPUT_LOAD_START, 2, 0, "", PLAIN},
+    {"LoadDone(2)", HM_INPUT_LOAD_DONE, 2, 0, "", PLAIN},
+    {"IdRead(2, AD)", HM_INPUT_ID_READ, 2, 0, "AD", PLAIN},
+    {"Open(AD)", HM_INPUT_OPEN, 0, 0, "AD", PLAIN},
+    {"SlotMap(AD, 25 threes)", HM_INPUT_SLOT_MAP, 0, 0, "AD", wafers, sizeof wafers},
+    {"AccessStart(AD)", HM_INPUT_ACCESS_START, 0, 0, "AD", PLAIN},
 };
+
+static const struct input *const last_of_the_run = &queue[11];
 
 static const char *const refusals[] = {
     "accepted",
@@ -126,8 +140,8 @@ int main(void)
 
     printf("one byte of the tool is damaged\n");
     tool.ports[0].transfer ^= 0x40;
-    if (!feed(&queue[11])) {
-        feed(&queue[11]); /* again, now to the tool that was taken back */
+    if (!feed(last_of_the_run)) {
+        feed(last_of_the_run); /* again, now to the tool that was taken back */
     }
     printf("%u of %u inputs accepted, carriers known: %u\n", accepted, (unsigned)i, tool.count);
     return 0;

@@ -3,7 +3,8 @@
  * Verify the pod before you open it.
  *
  * Three steps: hm_setup once, hm_step for every input, and after each accepted input pass the reports on.
- * The rules are document 01's. C99, C11 and C++17. Link with libhawsermole.a; see examples/firmware.c.
+ * The rules are document 01's, with the expected maps of document 02's request P1. C99, C11 and C++17.
+ * Link with libhawsermole.a; see examples/firmware.c.
  *
  * WHAT THE LIBRARY ANSWERS FOR
  * Every input is answered. The number, the port and the value may be any 32-bit number, the name and the codes
@@ -45,7 +46,8 @@ extern "C" {
 #define HM_NAME_BYTES 16           /* a name is 1 to 16 bytes, */
 #define HM_NAME_BYTE_LEAST 0x21    /* each from 0x21 */
 #define HM_NAME_BYTE_GREATEST 0x7E /* to 0x7E */
-#define HM_TOOL_BYTES 1891
+#define HM_SPARE_BYTES 991         /* bytes of a tool that hold nothing yet */
+#define HM_TOOL_BYTES 3782
 #define HM_REPORTS_BYTES 141
 
 /* Stack that one call may need, with room to spare; tests/c/stack.c measures it. */
@@ -59,9 +61,9 @@ extern "C" {
 
 /* The inputs, and the parts that each one reads; other parts are ignored. */
 enum hm_input {
-    HM_INPUT_BIND = 1,                         /* port, name */
+    HM_INPUT_BIND = 1,                         /* port, name, codes: the expected map, or none */
     HM_INPUT_CANCEL_BIND = 2,                  /* port or 0, name or none; not both missing */
-    HM_INPUT_CARRIER_NOTIFICATION = 3,         /* name */
+    HM_INPUT_CARRIER_NOTIFICATION = 3,         /* name, codes: the expected map, or none */
     HM_INPUT_CANCEL_CARRIER_NOTIFICATION = 4,  /* name */
     HM_INPUT_PROCEED_WITH_CARRIER = 5,         /* name, port or 0 */
     HM_INPUT_CANCEL_CARRIER = 6,               /* name, port or 0 */
@@ -78,7 +80,7 @@ enum hm_input {
     HM_INPUT_ID_READ_FAILED = 17,              /* port */
     HM_INPUT_MOVE_IN = 18,                     /* port, value: a buffer place from 1 */
     HM_INPUT_OPEN = 19,                        /* name */
-    HM_INPUT_SLOT_MAP = 20,                    /* name, codes */
+    HM_INPUT_SLOT_MAP = 20,                    /* name, codes: equal to the expected map, OK without the host */
     HM_INPUT_ACCESS_START = 21,                /* name */
     HM_INPUT_ACCESS_END = 22,                  /* name, value: HM_ACCESS_END_COMPLETE or _STOPPED */
     HM_INPUT_CLOSE = 23,                       /* name */
@@ -156,7 +158,12 @@ enum hm_service { HM_SERVICE_OUT = 0, HM_SERVICE_IN = 1 };
 
 enum hm_access_end { HM_ACCESS_END_COMPLETE = 0, HM_ACCESS_END_STOPPED = 1 };
 
-/* Codes of a slot map, in E87's words. The library keeps them; the host alone judges them. */
+/*
+ * Codes of a slot map, in E87's words. Bind and CarrierNotification may carry the map that the host expects: 25
+ * codes, each HM_CODE_EMPTY or HM_CODE_CORRECTLY_OCCUPIED, or none (length 0); anything else is refused with 1.
+ * A SlotMap that equals it at all 25 slots is OK at once: one report, model 6 from NOT READ to OK. With any other map,
+ * and where none is expected, the library keeps the codes and the host judges them.
+ */
 enum hm_code {
     HM_CODE_UNDEFINED = 0,
     HM_CODE_EMPTY = 1,
@@ -196,11 +203,13 @@ typedef struct hm_carrier {
 
 /* Read it as you like; change it through hm_step alone. Port number N is ports[N - 1]. */
 typedef struct hm_tool {
-    uint8_t used;                    /* ports of this tool */
-    uint8_t places;                  /* buffer places of this tool */
-    uint8_t count;                   /* carrier records, in the order they were made */
-    hm_port ports[HM_PORTS];         /* all zero past used */
-    hm_carrier carriers[HM_RECORDS]; /* all zero past count */
+    uint8_t used;                                /* ports of this tool */
+    uint8_t places;                              /* buffer places of this tool */
+    uint8_t count;                               /* carrier records, in the order they were made */
+    hm_port ports[HM_PORTS];                     /* all zero past used */
+    hm_carrier carriers[HM_RECORDS];             /* all zero past count */
+    uint8_t expected_maps[HM_RECORDS][HM_SLOTS]; /* of the carrier with the same index; all zero: none */
+    uint8_t spare[HM_SPARE_BYTES];               /* all zero */
 } hm_tool;
 
 typedef struct hm_report {
@@ -281,6 +290,8 @@ HM_AT(hm_tool, places, 1);
 HM_AT(hm_tool, count, 2);
 HM_AT(hm_tool, ports, 3);
 HM_AT(hm_tool, carriers, 91);
+HM_AT(hm_tool, expected_maps, 1891);
+HM_AT(hm_tool, spare, 2791);
 
 HM_HOLDS(hm_report_size, sizeof(hm_report) == 20);
 HM_AT(hm_report, model, 0);

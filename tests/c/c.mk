@@ -4,7 +4,7 @@ C_FILES = include/hawsermole.h $(wildcard tests/c/*.h) $(ARCHIVE)
 SANITIZE = -fsanitize=address,undefined -fno-sanitize-recover=all -fno-omit-frame-pointer
 SANITIZED = gcc -std=c99 $(CFLAGS_C) $(SANITIZE)
 
-C_PROGRAMS = header-c99 header-c11 header-c++17 twelve firmware callers stack
+C_PROGRAMS = header-c99 header-c11 header-c++17 twelve maps firmware callers stack
 
 c: cross $(C_PROGRAMS:%=target/c/%)
 	CC="$(CC)" tests/c/archive.sh $(ARCHIVE)
@@ -12,6 +12,7 @@ c: cross $(C_PROGRAMS:%=target/c/%)
 	$(EMULATOR) target/c/header-c11
 	$(EMULATOR) target/c/header-c++17
 	$(EMULATOR) target/c/twelve
+	$(EMULATOR) target/c/maps
 	$(EMULATOR) target/c/firmware > target/c/firmware.txt
 	diff tests/c/firmware.txt target/c/firmware.txt
 	$(EMULATOR) target/c/callers $(CALLERS)
@@ -30,7 +31,7 @@ target/c/header-c++17: tests/c/header.c $(C_FILES)
 	mkdir -p target/c
 	$(CXX) -std=c++17 $(CFLAGS_C) -x c++ $< -x none $(ARCHIVE) -o $@
 
-target/c/twelve target/c/callers target/c/stack: target/c/%: tests/c/%.c $(C_FILES)
+target/c/twelve target/c/maps target/c/callers target/c/stack: target/c/%: tests/c/%.c $(C_FILES)
 	mkdir -p target/c
 	$(CC) -std=c99 $(CFLAGS_C) $< $(ARCHIVE) -Wl,-z,now -o $@
 

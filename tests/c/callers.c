@@ -12,7 +12,7 @@
 #define ENOUGH 20000 /* inputs after which every row must have been accepted and every answer met */
 
 static struct room tool_room, reports_room, name_room, codes_room;
-static unsigned long inputs, seed, at, failures, set_ups, unsound_tools, damaged_tools;
+static unsigned long inputs, seed, at, failures, set_ups, unsound_tools, damaged_tools, slot_maps[HM_STATUS_FAILED + 1];
 static unsigned long answers[HM_REFUSED_PLACE_OR_OPENER_TAKEN + 1], accepted_rows[HM_INPUTS + 1];
 static unsigned most_records;
 
@@ -105,6 +105,24 @@ static void judge_reports(const struct input *in, const hm_reports *reports, uns
     }
 }
 
+/* The carrier whose slot status changed at this SlotMap is OK where the map is the expected one, and else waits. */
+static void judge_slot_map(const hm_tool *before, const struct input *in, const struct outcome *out)
+{
+    unsigned i = 0;
+    uint8_t expected;
+
+    while (i < HM_RECORDS - 1 && before->carriers[i].slot == out->tool.carriers[i].slot) {
+        i++;
+    }
+    expected = memcmp(before->expected_maps[i], in->codes, HM_SLOTS) == 0 && before->expected_maps[i][0] != 0
+                   ? HM_STATUS_OK
+                   : HM_STATUS_WAITING_FOR_HOST;
+    if (out->tool.carriers[i].slot != expected || memcmp(out->tool.carriers[i].map, in->codes, HM_SLOTS) != 0) {
+        wrong(in, "a slot map that wasn't kept, or was judged wrongly");
+    }
+    slot_maps[expected]++;
+}
+
 static void judge(const hm_tool *before, const struct input *in, const struct outcome *out)
 {
     if (out->answer > HM_REFUSED_PLACE_OR_OPENER_TAKEN || out->sound_before > 1) {
@@ -122,6 +140,9 @@ static void judge(const hm_tool *before, const struct input *in, const struct ou
             wrong(in, "accepted, and the tool isn't sound");
         }
         judge_reports(in, &out->reports, out->tool.used);
+        if (in->number == HM_INPUT_SLOT_MAP) {
+            judge_slot_map(before, in, out);
+        }
         return;
     }
     if (out->sound_before == 0 && out->answer != HM_REFUSED_OUT_OF_RANGE) {
@@ -208,7 +229,9 @@ static void damaged(const hm_tool *sound)
         memset(&tool, (int)below(256), sizeof tool);
     }
     while (changes-- > 0) {
-        uint32_t where = below(2) ? below(sizeof tool) : below(300);
+        uint32_t part = below(4);
+        uint32_t where = part < 2 ? below(sizeof tool) : below(300);
+        where += part == 3 ? (uint32_t)offsetof(hm_tool, expected_maps) : 0;
         ((uint8_t *)&tool)[where] = (uint8_t)(below(2) ? draw() : below(6));
     }
     damaged_tools++;
@@ -231,8 +254,11 @@ static void summary(void)
     for (i = 1; i <= HM_INPUTS; i++) {
         rows += accepted_rows[i] > 0;
     }
-    printf("\nrows accepted %u of %u, most records %u, %lu failed\n", rows, HM_INPUTS, most_records, failures);
-    if (inputs >= ENOUGH && (rows < HM_INPUTS || met <= HM_REFUSED_PLACE_OR_OPENER_TAKEN || unsound_tools == 0)) {
+    printf("\nrows accepted %u of %u, most records %u, ", rows, HM_INPUTS, most_records);
+    printf("slot maps OK at once %lu, for the host %lu, %lu failed\n", slot_maps[HM_STATUS_OK],
+           slot_maps[HM_STATUS_WAITING_FOR_HOST], failures);
+    if (inputs >= ENOUGH && (rows < HM_INPUTS || met <= HM_REFUSED_PLACE_OR_OPENER_TAKEN || unsound_tools == 0 ||
+                             slot_maps[HM_STATUS_OK] == 0 || slot_maps[HM_STATUS_WAITING_FOR_HOST] == 0)) {
         fprintf(stderr, "too little was met for this to mean anything\n");
         failures++;
     }

@@ -82,12 +82,49 @@ static void odd_name(struct input *in)
     }
 }
 
+/* Codes of a slot map. */
 static void good_codes(struct input *in)
 {
     uint32_t i;
     in->codes_length = HM_SLOTS;
     for (i = 0; i < HM_SLOTS; i++) {
         in->codes[i] = (uint8_t)below(HM_CODE_GREATEST + 1);
+    }
+}
+
+/* Codes of an expected map, or none. */
+static void expected_codes(struct input *in)
+{
+    uint32_t i;
+    in->codes_length = below(4) ? HM_SLOTS : 0;
+    for (i = 0; i < in->codes_length; i++) {
+        in->codes[i] = below(2) ? HM_CODE_EMPTY : HM_CODE_CORRECTLY_OCCUPIED;
+    }
+}
+
+/* The map that this tool expects of the named carrier, now and then with one slot changed; else as it was. */
+static void codes_as_expected(struct input *in, const hm_tool *tool)
+{
+    uint8_t padded[HM_NAME_BYTES] = {0};
+    uint32_t i;
+    memcpy(padded, in->name, in->name_length < HM_NAME_BYTES ? in->name_length : HM_NAME_BYTES);
+    for (i = 0; i < HM_RECORDS; i++) {
+        if (memcmp(tool->carriers[i].name, padded, HM_NAME_BYTES) == 0 && tool->expected_maps[i][0] != 0) {
+            memcpy(in->codes, tool->expected_maps[i], HM_SLOTS);
+            in->codes[below(HM_SLOTS)] ^= below(3) ? 0 : HM_CODE_EMPTY ^ HM_CODE_CORRECTLY_OCCUPIED;
+            return;
+        }
+    }
+}
+
+/* What the row reads of codes. */
+static void fitting_codes(struct input *in, const hm_tool *tool)
+{
+    good_codes(in);
+    if (in->number == HM_INPUT_BIND || in->number == HM_INPUT_CARRIER_NOTIFICATION) {
+        expected_codes(in);
+    } else if (in->number == HM_INPUT_SLOT_MAP && below(4)) {
+        codes_as_expected(in, tool);
     }
 }
 
@@ -186,12 +223,12 @@ static void next_input(struct input *in, const hm_tool *tool)
     filling = below(200) == 0 ? !filling : filling;
     in->port = 1 + below(ports);
     in->value = below(4) ? below(2) : below(tool->places + 2u);
-    good_codes(in);
     some_name(in);
     if (carrier != NULL && below(3)) {
         known_name(in, carrier);
     }
     fitting_number(in, tool, carrier);
+    fitting_codes(in, tool);
     if (below(12) == 0) {
         one_odd_part(in);
     }

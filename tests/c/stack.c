@@ -30,7 +30,7 @@ static hm_tool tool;
 static hm_reports reports;
 static struct input in;
 static uint32_t answer;
-static unsigned long accepted, refused, removed, removed_from_full, most_records;
+static unsigned long accepted, refused, removed, removed_from_full, most_records, at_once;
 
 static uint64_t paint(size_t i)
 {
@@ -100,6 +100,7 @@ static void step(void)
 {
     unsigned before = tool.count;
     run_on(&for_step, call_step);
+    at_once += answer == HM_ACCEPTED && in.number == HM_INPUT_SLOT_MAP && reports.items[0].new_state == HM_STATUS_OK;
     accepted += answer == HM_ACCEPTED;
     refused += answer != HM_ACCEPTED;
     removed += tool.count < before;
@@ -115,6 +116,7 @@ static void plain_step(uint32_t number, uint32_t port, uint32_t value, uint32_t 
     in.name_length = HM_NAME_BYTES;
     memset(in.name, 'N', HM_NAME_BYTES);
     in.name[HM_NAME_BYTES - 1] = (uint8_t)('0' + letter); /* differs in the last byte alone: the longest to compare */
+    fitting_codes(&in, &tool);
     step();
 }
 
@@ -151,7 +153,6 @@ static void every_row_to_a_full_tool(void)
 
     fill();
     full = tool;
-    good_codes(&in);
     for (number = 1; number <= HM_INPUTS; number++) {
         for (letter = 0; letter <= HM_RECORDS; letter++) {
             for (port = 0; port <= HM_PORTS; port++) {
@@ -205,9 +206,10 @@ int main(int argc, char **argv)
     failed += figure(&for_step);
     failed += figure(&for_setup);
     failed += figure(&for_sound);
-    printf("over %lu accepted and %lu refused inputs, %lu records removed, %lu of them from a full tool of %lu\n",
+    printf("over %lu accepted and %lu refused inputs, %lu records removed, %lu of them from a full tool of %lu, ",
            accepted, refused, removed, removed_from_full, most_records);
-    if (accepted == 0 || refused == 0 || removed_from_full == 0 || most_records != HM_RECORDS) {
+    printf("%lu slot maps OK at once\n", at_once);
+    if (accepted == 0 || refused == 0 || removed_from_full == 0 || most_records != HM_RECORDS || at_once == 0) {
         fprintf(stderr, "too little was met for this to mean anything\n");
         failed++;
     }
