@@ -1,9 +1,11 @@
 //! The inputs, with document 01's names and arguments.
+use crate::map::ExpectedMap;
 use crate::name::write_text;
 use crate::row::{Argument, Row, ROWS};
 use core::fmt;
 
-/// One input: document 01's 26 rows, with their arguments in its order.
+/// One input: document 01's 26 rows, with their arguments in its order. Rows 1 and 3 have two cases each, without an
+/// expected map and with one.
 ///
 /// A port, place or value is any 32-bit number, a name and codes are any bytes of any length:
 /// what is outside its range is answered with [`Refusal::OutOfRange`](crate::Refusal::OutOfRange), not cut.
@@ -16,10 +18,14 @@ use core::fmt;
 pub enum Input<'a> {
     /// 1: associates an expected carrier with a port, and reserves the port.
     Bind { port: u32, name: &'a [u8] },
+    /// 1, with the slot map that the host expects: one that equals it is OK without asking the host.
+    BindWithMap { port: u32, name: &'a [u8], map: ExpectedMap<'a> },
     /// 2: takes a Bind back. Port 0 or an empty name: not given; one of them is.
     CancelBind { port: u32, name: &'a [u8] },
     /// 3: announces a carrier.
     CarrierNotification { name: &'a [u8] },
+    /// 3, with the slot map that the host expects: one that equals it is OK without asking the host.
+    CarrierNotificationWithMap { name: &'a [u8], map: ExpectedMap<'a> },
     /// 4: takes an announcement back.
     CancelCarrierNotification { name: &'a [u8] },
     /// 5: the host accepts a carrier's ID, or else its slot map. Port 0: not given.
@@ -53,7 +59,7 @@ pub enum Input<'a> {
     /// 19: opens a carrier.
     Open { name: &'a [u8] },
     /// 20: the slot map of an open carrier was read: 25 codes, each 0 to 5;
-    /// [`slot_code`](crate::words::slot_code) has their words.
+    /// [`slot_code`](crate::words::slot_code) has their words. OK at once if it equals the expected map.
     SlotMap { name: &'a [u8], codes: &'a [u8] },
     /// 21: the wafers are about to be touched.
     AccessStart { name: &'a [u8] },
@@ -80,7 +86,7 @@ pub struct Parts<'a> {
     pub value: u32,
     /// The carrier's name.
     pub name: &'a [u8],
-    /// The codes of a slot map.
+    /// The codes of a slot map, or of an expected map.
     pub codes: &'a [u8],
 }
 
@@ -120,8 +126,10 @@ impl<'a> Input<'a> {
         let row = Parts::row;
         match *self {
             Input::Bind { port, name } => row(1).port(port).name(name),
+            Input::BindWithMap { port, name, map } => row(1).port(port).name(name).codes(map.codes()),
             Input::CancelBind { port, name } => row(2).port(port).name(name),
             Input::CarrierNotification { name } => row(3).name(name),
+            Input::CarrierNotificationWithMap { name, map } => row(3).name(name).codes(map.codes()),
             Input::CancelCarrierNotification { name } => row(4).name(name),
             Input::ProceedWithCarrier { name, port } => row(5).name(name).port(port),
             Input::CancelCarrier { name, port } => row(6).name(name).port(port),
@@ -148,7 +156,8 @@ impl<'a> Input<'a> {
         }
     }
 
-    /// The input of its parts; none if the number isn't 1 to 26. Parts that the row doesn't name are left out.
+    /// The input of its parts; none if the number isn't 1 to 26, or if rows 1 and 3 carry codes that are no expected
+    /// map. Parts that the row doesn't name are left out.
     ///
     /// ```
     /// use hawsermole::{Input, Parts};
@@ -156,13 +165,16 @@ impl<'a> Input<'a> {
     /// let parts = Parts { number: 13, port: 1, ..Parts::default() };
     /// assert_eq!(Input::from_parts(&parts), Some(Input::LoadStart { port: 1 }));
     /// assert_eq!(Input::from_parts(&Parts { number: 27, ..parts }), None);
+    /// assert_eq!(Input::from_parts(&Parts { number: 1, codes: &[5; 25], ..parts }), None);
     /// ```
     pub fn from_parts(parts: &Parts<'a>) -> Option<Input<'a>> {
         let Parts { number, port, value, name, codes } = *parts;
         Some(match number {
-            1 => Input::Bind { port, name },
+            1 if codes.is_empty() => Input::Bind { port, name },
+            1 => Input::BindWithMap { port, name, map: ExpectedMap::new(codes).ok()? },
             2 => Input::CancelBind { port, name },
-            3 => Input::CarrierNotification { name },
+            3 if codes.is_empty() => Input::CarrierNotification { name },
+            3 => Input::CarrierNotificationWithMap { name, map: ExpectedMap::new(codes).ok()? },
             4 => Input::CancelCarrierNotification { name },
             5 => Input::ProceedWithCarrier { name, port },
             6 => Input::CancelCarrier { name, port },
@@ -210,25 +222,43 @@ impl<'a> Input<'a> {
 /// The input in document 01's form, with `-` for an empty name: `Bind(1, AB)`, `SlotMap(AC, 25 codes)`.
 ///
 /// ```
-/// use hawsermole::Input;
+/// use hawsermole::{ExpectedMap, Input};
 ///
 /// assert_eq!(Input::Bind { port: 1, name: b"AB" }.to_string(), "Bind(1, AB)");
 /// assert_eq!(Input::CancelBind { port: 2, name: b"" }.to_string(), "CancelBind(2, -)");
 /// assert_eq!(Input::SlotMap { name: b"AC", codes: &[3; 25] }.to_string(), "SlotMap(AC, 25 codes)");
+/// let map = ExpectedMap::new(&[3; 25]).unwrap();
+/// assert_eq!(Input::BindWithMap { port: 1, name: b"AB", map }.to_string(), "Bind(1, AB, 25 codes)");
 /// ```
 impl fmt::Display for Input<'_> {
     fn fmt(&self, f: &mut fmt::Formatter<'_>) -> fmt::Result {
-        let (row, parts) = (self.row(), self.parts());
+        self.parts().fmt(f)
+    }
+}
+
+/// As an [`Input`]; the number alone where no row has it.
+///
+/// ```
+/// use hawsermole::Parts;
+///
+/// let parts = Parts { number: 1, port: 1, name: b"AB", codes: &[5, 5], ..Parts::default() };
+/// assert_eq!(parts.to_string(), "Bind(1, AB, 2 codes)");
+/// assert_eq!(Parts { number: 27, ..parts }.to_string(), "27");
+/// ```
+impl fmt::Display for Parts<'_> {
+    fn fmt(&self, f: &mut fmt::Formatter<'_>) -> fmt::Result {
+        let Some(row) = Row::numbered(self.number) else { return write!(f, "{}", self.number) };
+        let left_out = |argument: &Argument| *argument == Argument::MapOrNone && self.codes.is_empty();
         write!(f, "{}(", row.name)?;
-        for (place, argument) in row.arguments.iter().enumerate() {
+        for (place, argument) in row.arguments.iter().filter(|argument| !left_out(argument)).enumerate() {
             f.write_str(if place == 0 { "" } else { ", " })?;
             match argument {
-                Argument::Port | Argument::PortOrNone => write!(f, "{}", parts.port)?,
-                Argument::Name | Argument::NameOrNone if parts.name.is_empty() => f.write_str("-")?,
-                Argument::Name | Argument::NameOrNone => write_text(parts.name, f)?,
-                Argument::Codes => write!(f, "{} codes", parts.codes.len())?,
+                Argument::Port | Argument::PortOrNone => write!(f, "{}", self.port)?,
+                Argument::Name | Argument::NameOrNone if self.name.is_empty() => f.write_str("-")?,
+                Argument::Name | Argument::NameOrNone => write_text(self.name, f)?,
+                Argument::Codes | Argument::MapOrNone => write!(f, "{} codes", self.codes.len())?,
                 Argument::Access | Argument::Service | Argument::Place | Argument::End => {
-                    write!(f, "{}", parts.value)?
+                    write!(f, "{}", self.value)?
                 }
             }
         }
@@ -247,12 +277,15 @@ mod tests {
     type Case = (Input<'static>, u32, u32, u32, &'static [u8], &'static [u8]);
 
     #[rustfmt::skip]
-    fn every_input() -> [Case; 26] {
+    fn every_input() -> [Case; 28] {
         let (name, codes): (_, &[u8]) = (NAME, &[3; 25]);
+        let map = ExpectedMap::new(codes).unwrap();
         [
             (Input::Bind { port: 1, name }, 1, 1, 0, NAME, &[]),
+            (Input::BindWithMap { port: 1, name, map }, 1, 1, 0, NAME, codes),
             (Input::CancelBind { port: 2, name }, 2, 2, 0, NAME, &[]),
             (Input::CarrierNotification { name }, 3, 0, 0, NAME, &[]),
+            (Input::CarrierNotificationWithMap { name, map }, 3, 0, 0, NAME, codes),
             (Input::CancelCarrierNotification { name }, 4, 0, 0, NAME, &[]),
             (Input::ProceedWithCarrier { name, port: 3 }, 5, 3, 0, NAME, &[]),
             (Input::CancelCarrier { name, port: 4 }, 6, 4, 0, NAME, &[]),
@@ -288,14 +321,19 @@ mod tests {
         }
     }
 
-    /// The derived text gives the case's own name, and its fields in their order.
+    /// The derived text gives the case's own name, and its fields in their order; a map may be left out.
     #[test]
     fn every_input_has_its_rows_name_and_order() {
-        for (input, ..) in every_input() {
+        for (input, _, _, _, _, codes) in every_input() {
             let (text, row) = (format!("{input:?}"), input.row());
-            assert!(text.starts_with(&format!("{} {{", row.name)), "{text}");
+            let with_map = row.arguments.contains(&Argument::MapOrNone) && !codes.is_empty();
+            assert!(
+                text.starts_with(&format!("{}{} {{", row.name, if with_map { "WithMap" } else { "" })),
+                "{text}"
+            );
+            let stands = |argument: &&Argument| **argument != Argument::MapOrNone || with_map;
             let place = |argument: &Argument| text.find(&format!(" {}: ", argument.name())).expect(row.name);
-            assert!(row.arguments.iter().map(place).is_sorted(), "{text}");
+            assert!(row.arguments.iter().filter(stands).map(place).is_sorted(), "{text}");
         }
     }
 
@@ -303,6 +341,17 @@ mod tests {
     fn odd_numbers_are_no_input() {
         for number in [0, 27, 255, 256, 257, u32::MAX] {
             assert_eq!(Input::from_parts(&Parts { number, ..Parts::default() }), None);
+        }
+    }
+
+    /// Only rows 1 and 3 take codes for an expected map.
+    #[test]
+    fn codes_that_are_no_map_are_no_input() {
+        for codes in [&[3; 24][..], &[0; 25], &[4; 25], &[3; 26]] {
+            for number in 1..=26 {
+                let input = Input::from_parts(&Parts { number, codes, ..Parts::default() });
+                assert_eq!(input.is_none(), matches!(number, 1 | 3), "{number}");
+            }
         }
     }
 

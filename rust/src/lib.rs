@@ -2,8 +2,9 @@
 //! load ports, pods and the buffer, one input at a time, no heap.
 //!
 //! The machine itself is an archive, `libhawsermole.a`, proved to give exactly the answer, the state and the
-//! reports that document 01 lays down. This crate wraps it: an [`Input`] has document 01's name and arguments,
-//! a [`Refusal`] is one of its eight reasons, and [`Reports`] gives what changed.
+//! reports that document 01 lays down, with document 02's request P1. This crate wraps it: an [`Input`] has
+//! document 01's name and arguments, a [`Refusal`] is one of its eight reasons, [`Reports`] gives what changed, and an
+//! [`ExpectedMap`] lets the tool judge a slot map that the host knows beforehand.
 //!
 //! ```
 //! use hawsermole::{Input, Model, Refusal, Subject, Tool};
@@ -43,6 +44,7 @@ extern crate std;
 
 mod input;
 mod machine;
+mod map;
 mod name;
 pub mod raw;
 mod refusal;
@@ -52,6 +54,7 @@ mod tool;
 pub mod words;
 
 pub use input::{Input, Parts};
+pub use map::{ExpectedMap, MapError};
 pub use name::{Name, NAME_BYTES};
 pub use raw::{REPORTS_BYTES, TOOL_BYTES};
 pub use refusal::Refusal;

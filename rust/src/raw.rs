@@ -15,7 +15,7 @@
 //! ```
 
 /// How many bytes a tool has.
-pub const TOOL_BYTES: usize = 1891;
+pub const TOOL_BYTES: usize = 3782;
 /// How many bytes the reports of an input have.
 pub const REPORTS_BYTES: usize = 141;
 
@@ -83,8 +83,10 @@ mod tests {
 
     #[test]
     fn sizes_are_the_sum_of_their_parts() {
-        use crate::tool::{CARRIER_BYTES, HEAD_BYTES, PORT_BYTES};
-        assert_eq!(TOOL_BYTES, HEAD_BYTES + crate::PORTS * PORT_BYTES + crate::RECORDS * CARRIER_BYTES);
+        use crate::tool::{CARRIER_BYTES, HEAD_BYTES, PORT_BYTES, SPARE_BYTES};
+        use crate::{PORTS, RECORDS, SLOTS};
+        let of_document_01 = HEAD_BYTES + PORTS * PORT_BYTES + RECORDS * CARRIER_BYTES;
+        assert_eq!(TOOL_BYTES, of_document_01 + RECORDS * SLOTS + SPARE_BYTES);
         assert_eq!(REPORTS_BYTES, 1 + crate::REPORTS * crate::report::REPORT_BYTES);
     }
 }

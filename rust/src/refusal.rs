@@ -15,7 +15,8 @@ use core::fmt;
 #[derive(Clone, Copy, Debug, PartialEq, Eq, PartialOrd, Ord, Hash)]
 #[repr(u8)]
 pub enum Refusal {
-    /// 1: a port, place, value or name is outside its range, the input number isn't 1 to 26, or the state isn't sound.
+    /// 1: a port, place, value or name is outside its range, the input number isn't 1 to 26, or the state isn't sound;
+    /// also codes that are no slot map, or no [`ExpectedMap`](crate::ExpectedMap) in rows 1 and 3.
     OutOfRange = 1,
     /// 2: the name has no record, where the row says so.
     NoRecord = 2,

@@ -21,6 +21,8 @@ pub enum Argument {
     End,
     /// The 25 codes of a slot map.
     Codes,
+    /// The 25 codes of an expected map, or none. It stands last, and may be left out.
+    MapOrNone,
 }
 
 impl Argument {
@@ -34,6 +36,7 @@ impl Argument {
             Argument::Place => "place",
             Argument::End => "end",
             Argument::Codes => "codes",
+            Argument::MapOrNone => "map",
         }
     }
 }
@@ -82,7 +85,7 @@ impl Row {
     }
 }
 
-use Argument::{Access, Codes, End, Name, NameOrNone, Place, Port, PortOrNone, Service};
+use Argument::{Access, Codes, End, MapOrNone, Name, NameOrNone, Place, Port, PortOrNone, Service};
 
 const fn row(number: u32, name: &'static str, arguments: &'static [Argument], text: &'static str) -> Row {
     Row { number, name, arguments, text, conditions: None }
@@ -96,11 +99,16 @@ impl Row {
 
 /// The 26 rows, by number.
 pub const ROWS: [Row; 26] = [
-    row(1, "Bind", &[Port, Name], "associate an expected carrier with a port and reserve the port")
-        .needs("the port READY TO LOAD"),
+    row(
+        1,
+        "Bind",
+        &[Port, Name, MapOrNone],
+        "associate an expected carrier with a port and reserve the port",
+    )
+    .needs("the port READY TO LOAD"),
     row(2, "CancelBind", &[PortOrNone, NameOrNone], "take a Bind back")
         .needs("what is given means one tied pair, the carrier expected and the port idle"),
-    row(3, "CarrierNotification", &[Name], "announce a carrier"),
+    row(3, "CarrierNotification", &[Name, MapOrNone], "announce a carrier"),
     row(4, "CancelCarrierNotification", &[Name], "take an announcement back")
         .needs("the carrier expected and untied"),
     row(5, "ProceedWithCarrier", &[Name, PortOrNone], "the host accepts the ID, or else the slot map").needs(
@@ -148,7 +156,7 @@ mod tests {
     use crate::{Input, Parts};
 
     /// Every part given: what an input keeps of them is what its row names.
-    const FULL: Parts<'static> = Parts { number: 0, port: 3, value: 9, name: b"N", codes: b"C" };
+    const FULL: Parts<'static> = Parts { number: 0, port: 3, value: 9, name: b"N", codes: &[3; 25] };
 
     fn named_parts(row: &Row) -> Parts<'static> {
         let mut parts = Parts { number: row.number, ..Parts::default() };
@@ -156,7 +164,7 @@ mod tests {
             match argument.name() {
                 "port" => parts.port = FULL.port,
                 "name" => parts.name = FULL.name,
-                "codes" => parts.codes = FULL.codes,
+                "codes" | "map" => parts.codes = FULL.codes,
                 _ => parts.value = FULL.value,
             }
         }

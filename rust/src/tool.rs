@@ -17,7 +17,9 @@ pub const SLOTS: usize = 25;
 pub(crate) const HEAD_BYTES: usize = 3;
 pub(crate) const PORT_BYTES: usize = 22;
 pub(crate) const CARRIER_BYTES: usize = 50;
+pub(crate) const SPARE_BYTES: usize = 991;
 const CARRIERS_START: usize = HEAD_BYTES + PORTS * PORT_BYTES;
+const MAPS_START: usize = TOOL_BYTES - SPARE_BYTES - RECORDS * SLOTS;
 
 /// A tool: its ports, its buffer and the carriers that it knows of.
 ///
@@ -80,7 +82,8 @@ impl Tool {
         Tool { bytes: *bytes }
     }
 
-    /// The tool's bytes: ports, places, records; 4 ports of 22 bytes; 36 carriers of 50 bytes.
+    /// The tool's bytes: ports, places, records; 4 ports of 22 bytes; 36 carriers of 50 bytes; their 36 expected
+    /// maps of 25 bytes; 991 bytes that are zero.
     pub const fn as_bytes(&self) -> &[u8; TOOL_BYTES] {
         &self.bytes
     }
@@ -96,10 +99,14 @@ impl Tool {
     /// use hawsermole::{Parts, Refusal, Tool};
     ///
     /// let mut tool = Tool::setup(1, 0).unwrap();
-    /// let bind = Parts { number: 1, port: 1, value: 77, name: b"AB", codes: b"ignored" };
-    /// assert_eq!(tool.step_parts(&bind).unwrap().len(), 5);
-    /// assert_eq!(tool.step_parts(&Parts { number: 27, ..bind }), Err(Refusal::OutOfRange));
-    /// assert_eq!(tool.step_parts(&Parts { number: 13, port: 257, ..bind }), Err(Refusal::OutOfRange));
+    /// let load = Parts { number: 13, port: 1, value: 77, name: b"ignored", codes: b"ignored" };
+    /// assert_eq!(tool.step_parts(&load).unwrap().len(), 1);
+    /// assert_eq!(tool.step_parts(&Parts { number: 27, ..load }), Err(Refusal::OutOfRange));
+    /// assert_eq!(tool.step_parts(&Parts { port: 257, ..load }), Err(Refusal::OutOfRange));
+    ///
+    /// // Bind names the codes: none, or an expected map.
+    /// let bind = Parts { number: 1, port: 1, value: 77, name: b"AB", codes: b"no map" };
+    /// assert_eq!(tool.step_parts(&bind), Err(Refusal::OutOfRange));
     /// ```
     pub fn step_parts(&mut self, parts: &Parts<'_>) -> Result<Reports, Refusal> {
         let mut reports = [0; REPORTS_BYTES];
@@ -149,6 +156,30 @@ impl Tool {
             Carrier::read(&self.bytes[CARRIERS_START + place * CARRIER_BYTES..][..CARRIER_BYTES])
         })
     }
+
+    /// The codes of the slot map that the host expects of a carrier; none where its record has no such map, or the
+    /// name no record. In a sound tool each code is 1 or 3.
+    ///
+    /// ```
+    /// use hawsermole::{ExpectedMap, Input, Tool};
+    ///
+    /// let mut tool = Tool::setup(1, 0).unwrap();
+    /// let map = ExpectedMap::new(&[3; 25]).unwrap();
+    /// tool.step(&Input::CarrierNotificationWithMap { name: b"A", map }).unwrap();
+    /// tool.step(&Input::CarrierNotification { name: b"B" }).unwrap();
+    /// assert_eq!(tool.expected_map(b"A"), Some(&[3; 25]));
+    /// assert_eq!((tool.expected_map(b"B"), tool.expected_map(b"C")), (None, None));
+    /// ```
+    pub fn expected_map(&self, name: &[u8]) -> Option<&[u8; SLOTS]> {
+        let place = self.carriers().position(|carrier| carrier.name.as_bytes() == name)?;
+        let (maps, _) = self.bytes[MAPS_START..].as_chunks();
+        Some(&maps[place]).filter(|map| **map != [0; SLOTS])
+    }
+
+    fn expected_maps(&self) -> impl Iterator<Item = (Name, &[u8; SLOTS])> {
+        self.carriers()
+            .filter_map(|carrier| Some((carrier.name, self.expected_map(carrier.name.as_bytes())?)))
+    }
 }
 
 impl fmt::Debug for Tool {
@@ -157,6 +188,7 @@ impl fmt::Debug for Tool {
             .field("places", &self.places())
             .field("ports", &fmt::from_fn(|f| f.debug_list().entries(self.ports()).finish()))
             .field("carriers", &fmt::from_fn(|f| f.debug_list().entries(self.carriers()).finish()))
+            .field("expected_maps", &fmt::from_fn(|f| f.debug_map().entries(self.expected_maps()).finish()))
             .finish()
     }
 }
@@ -262,6 +294,7 @@ fn name_at(bytes: &[u8], start: usize) -> Name {
 #[cfg(test)]
 mod tests {
     use super::*;
+    use crate::ExpectedMap;
     use std::format;
     use std::vec::Vec;
 
@@ -311,6 +344,21 @@ mod tests {
         }
     }
 
+    #[test]
+    fn expected_maps_are_read_where_they_stand() {
+        let mut tool = numbered_bytes();
+        tool.bytes[2] = 36;
+        for (place, c) in tool.carriers().enumerate() {
+            let start = 1891 + 25 * place;
+            assert_eq!(tool.expected_map(c.name.as_bytes()).unwrap(), &tool.bytes[start..start + 25]);
+        }
+        tool.bytes[1891 + 25..1891 + 49].fill(0);
+        let second = tool.carriers().nth(1).unwrap().name;
+        assert!(tool.expected_map(second.as_bytes()).is_some());
+        tool.bytes[1891 + 49] = 0;
+        assert_eq!(tool.expected_map(second.as_bytes()), None);
+    }
+
     /// A tool of any bytes can be looked at, however many ports and records it claims.
     #[test]
     fn counts_past_the_tables_are_not_followed() {
@@ -349,5 +397,9 @@ mod tests {
         let text = format!("{tool:?}");
         assert!(text.starts_with("Tool { places: 2, ports: [Port { number: 1, transfer: 1,"), "{text}");
         assert!(text.contains("carriers: [Carrier { name: Name(\"AB\")"), "{text}");
+        assert!(text.ends_with("expected_maps: {} }"), "{text}");
+        let map = ExpectedMap::new(&[3; SLOTS]).unwrap();
+        tool.step(&Input::BindWithMap { port: 1, name: b"C", map }).unwrap();
+        assert!(format!("{tool:?}").contains("expected_maps: {Name(\"C\"): [3, 3, 3,"), "{tool:?}");
     }
 }
