@@ -1,6 +1,6 @@
 //! What an input, its answer and its reports mean, in E87's words: indented lines below the answer.
 use crate::print::{self, Answer};
-use hawsermole::{Input, Model, Parts, Refusal, Report, Subject, Tool};
+use hawsermole::{Argument, ExpectedMap, Model, Parts, Refusal, Report, Row, Subject, Tool, SLOTS};
 
 /// A set-up's answer.
 pub fn setup(tool: &Tool, refusal: Option<Refusal>) -> String {
@@ -26,35 +26,47 @@ fn counted(count: usize, what: &str) -> String {
     format!("{count} {what}{}", if count == 1 { "" } else { "s" })
 }
 
-/// A line for the input, one for its answer, one for what a refusal would have needed, one for each report.
+/// A line for the input, one for its answer, one for what a refusal would have needed, one for each report, and one
+/// for what a slot map was compared with.
 pub fn answer(tool: &Tool, parts: &Parts, given: &Answer) -> String {
-    let input = Input::from_parts(parts);
-    let mut lines = vec![of_input(parts.number, input)];
+    let row = Row::numbered(parts.number);
+    let mut lines = vec![format!("{parts}: {}", row.map_or("no input has this number", |row| row.text))];
     match given {
         Ok(_) => lines.push("accepted".into()),
         Err(refusal) => {
             lines.push(format!("refused, {}: {refusal}", refusal.number()));
-            lines.extend(needed(tool, *refusal, input).map(|needed| format!("needed: {needed}")));
+            lines.extend(needed(tool, *refusal, row, parts.codes).map(|needed| format!("needed: {needed}")));
         }
     }
     lines.extend(print::reports(given).map(of_report));
+    if given.is_ok() && row.is_some_and(|row| row.arguments.contains(&Argument::Codes)) {
+        lines.push(compared(tool.expected_map(parts.name), parts.codes));
+    }
     lines.into_iter().map(|line| format!("  {line}\n")).collect()
 }
 
-/// `Open(AC): open a carrier`.
-fn of_input(number: u32, input: Option<Input>) -> String {
-    match input {
-        Some(input) => format!("{input}: {}", input.row().text),
-        None => format!("{number}: no input has this number"),
+/// What was needed, where the refusal itself doesn't say it.
+fn needed(tool: &Tool, refusal: Refusal, row: Option<&Row>, codes: &[u8]) -> Option<String> {
+    match refusal {
+        Refusal::OutOfRange if *tool == Tool::none() => Some("a set-up, since there is no tool".into()),
+        Refusal::OutOfRange if row?.arguments.contains(&Argument::MapOrNone) && !codes.is_empty() => {
+            ExpectedMap::new(codes).err().map(|error| format!("no map, or another one: {error}"))
+        }
+        Refusal::Conditions => row?.conditions.map(String::from),
+        _ => None,
     }
 }
 
-/// What was needed, where the refusal itself doesn't say it.
-fn needed(tool: &Tool, refusal: Refusal, input: Option<Input>) -> Option<&'static str> {
-    match refusal {
-        Refusal::OutOfRange if *tool == Tool::none() => Some("a set-up, since there is no tool"),
-        Refusal::Conditions => input.and_then(|input| input.row().conditions),
-        _ => None,
+/// Whether the map is the expected one, and what follows from it.
+fn compared(expected: Option<&[u8; SLOTS]>, codes: &[u8]) -> String {
+    let Some(expected) = expected else { return "no map was expected: the host is asked".into() };
+    let slots = (1..).zip(expected.iter().zip(codes)).filter(|(_, (one, other))| one != other);
+    let slots: Vec<String> = slots.map(|(slot, _): (u32, _)| slot.to_string()).collect();
+    let differs = "the map differs from the expected one at slot";
+    match &slots[..] {
+        [] => "the map is the expected one: the host isn't asked".into(),
+        [slot] => format!("{differs} {slot}: the host is asked"),
+        slots => format!("{differs}s {}: the host is asked", slots.join(", ")),
     }
 }
 
@@ -75,6 +87,8 @@ fn of_report(Report { model, subject, old, new }: Report) -> String {
 #[cfg(test)]
 mod tests {
     use super::*;
+    use crate::print::tests::tool;
+    use hawsermole::Input;
 
     fn explained(tool: &mut Tool, input: Input) -> String {
         let given = tool.step(&input);
@@ -126,6 +140,48 @@ mod tests {
             accepted.ends_with("  carrier AC: ID WAITING FOR HOST to ID VERIFICATION OK\n"),
             "{accepted}"
         );
+    }
+
+    const NAME: &[u8] = b"AB";
+
+    /// The last line for a slot map of a carrier that was announced so.
+    fn judged(announced: Input, codes: &[u8]) -> String {
+        let read = Input::IdRead { port: 1, name: NAME };
+        let (start, done) = (Input::LoadStart { port: 1 }, Input::LoadDone { port: 1 });
+        let mut tool = tool(1, 0, &[announced, start, done, read, Input::Open { name: NAME }]);
+        let lines = explained(&mut tool, Input::SlotMap { name: NAME, codes });
+        lines.lines().last().unwrap().into()
+    }
+
+    #[test]
+    fn slot_maps_and_what_was_expected() {
+        let expected = [3; SLOTS];
+        let announced = Input::BindWithMap { port: 1, name: NAME, map: ExpectedMap::new(&expected).unwrap() };
+        assert_eq!(judged(announced, &expected), "  the map is the expected one: the host isn't asked");
+        let mut codes = expected;
+        codes[24] = 1;
+        let differs = "  the map differs from the expected one at slot";
+        assert_eq!(judged(announced, &codes), format!("{differs} 25: the host is asked"));
+        (codes[0], codes[3]) = (5, 0);
+        assert_eq!(judged(announced, &codes), format!("{differs}s 1, 4, 25: the host is asked"));
+        let without = Input::Bind { port: 1, name: NAME };
+        assert_eq!(judged(without, &expected), "  no map was expected: the host is asked");
+    }
+
+    #[test]
+    fn maps_that_cannot_be_expected() {
+        let mut tool = tool(1, 0, &[]);
+        let mut told = |codes: &[u8]| {
+            let parts = Parts { number: 1, port: 1, value: 0, name: NAME, codes };
+            let given = tool.step_parts(&parts);
+            answer(&tool, &parts, &given)
+        };
+        let short = told(&[3; 2]);
+        assert!(short.starts_with("  Bind(1, AB, 2 codes): associate"), "{short}");
+        let needed = "\n  needed: no map, or another one: an expected map has";
+        assert!(short.ends_with(&format!("{needed} 25 codes, not 2\n")), "{short}");
+        assert!(told(&[5; SLOTS]).ends_with("alone, not 5 as at slot 1\n"));
+        assert!(!told(&[3; SLOTS]).contains("needed"));
     }
 
     #[test]

@@ -53,6 +53,7 @@ pub fn help() -> String {
         ("SERVICE", "0 out of service, 1 in service"),
         ("END", "0 complete, 1 stopped"),
         ("CODES", values::CODES),
+        ("MAP", "the slot map that the host expects, as CODES, each 1 or 3; may be left out"),
     ] {
         text += &format!("\n  {word:<10}{meaning}");
     }
@@ -94,7 +95,8 @@ setup prints   setup ANSWER
 in prints      ANSWER COUNT [MODEL SUBJECT OLD NEW; ..]   with names in hex
 a name prints  ANSWER  MODEL SUBJECT OLD>NEW; ..          or none
 dump prints    port I TRANSFER ACCESS RESERVED TIE MOVEMENT POD TAG
-               rec NAME PLACE SPOT PORT OPEN CANCELLED CAME-OUT MAP ID SLOT ACCESSING
+               rec NAME PLACE SPOT PORT OPEN CANCELLED CAME-OUT CODES ID SLOT ACCESSING
+               map NAME CODES   for each record with an expected map
                end
 
 Before a set-up, and after one that was refused, there is no tool: every input is answered 1. A line

@@ -8,7 +8,7 @@ pub fn state(tool: &Tool) -> String {
         return "there is no tool: set one up with setup P B\n".into();
     }
     let ports: String = tool.ports().map(port).collect();
-    let carriers: String = tool.carriers().map(carrier).collect();
+    let carriers: String = tool.carriers().map(|of| carrier(tool, of)).collect();
     let carriers = if carriers.is_empty() { "no carriers\n".into() } else { carriers };
     format!("{}\n", tool_kind(tool)) + &ports + &carriers
 }
@@ -33,7 +33,7 @@ fn port(port: Port) -> String {
     format!("port {}: {}\n", port.number, parts.join(", "))
 }
 
-fn carrier(carrier: Carrier) -> String {
+fn carrier(tool: &Tool, carrier: Carrier) -> String {
     let mut parts = vec![
         place(&carrier),
         if carrier.open == 0 { "closed" } else { "open" }.into(),
@@ -46,11 +46,17 @@ fn carrier(carrier: Carrier) -> String {
             parts.push(word.into());
         }
     }
+    if let Some(map) = tool.expected_map(carrier.name.as_bytes()) {
+        parts.push(format!("expected map {}", codes(map)));
+    }
     if carrier.map.iter().any(|&code| code != 0) {
-        let codes: String = carrier.map.iter().map(|code| code.to_string()).collect();
-        parts.push(format!("slot map {codes}"));
+        parts.push(format!("slot map {}", codes(&carrier.map)));
     }
     format!("carrier {}: {}\n", carrier.name, parts.join(", "))
+}
+
+fn codes(map: &[u8]) -> String {
+    map.iter().map(|code| code.to_string()).collect()
 }
 
 fn place(carrier: &Carrier) -> String {
@@ -66,7 +72,7 @@ fn place(carrier: &Carrier) -> String {
 mod tests {
     use super::*;
     use crate::print::tests::tool;
-    use hawsermole::Input;
+    use hawsermole::{ExpectedMap, Input};
 
     fn after(ports: u32, places: u32, inputs: &[Input]) -> String {
         state(&tool(ports, places, inputs))
@@ -90,6 +96,14 @@ mod tests {
         assert!(bound.contains("RESERVED, ASSOCIATED with AB, idle, no pod\n"), "{bound}");
         assert!(bound.contains("carrier AB: expected at port 1, closed, ID NOT READ, SLOT MAP NOT READ"));
         assert!(bound.contains("carrier C: expected, closed, ID NOT READ"));
+    }
+
+    #[test]
+    fn expected_maps() {
+        let map = ExpectedMap::new(&[1; 25]).unwrap();
+        let announced = after(1, 0, &[Input::CarrierNotificationWithMap { name: b"C", map }]);
+        let expected = "NOT ACCESSED, expected map 1111111111111111111111111\n";
+        assert!(announced.ends_with(expected), "{announced}");
     }
 
     #[test]

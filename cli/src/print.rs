@@ -35,11 +35,12 @@ pub fn named(given: &Answer) -> String {
     format!("{}  {}\n", answer(given), reports(given))
 }
 
-/// The whole state: a line for each port, a line for each record, `end`.
+/// The whole state: a line for each port, for each record and for each expected map, `end`.
 pub fn dump(tool: &Tool) -> String {
     let ports: String = tool.ports().map(port_line).collect();
     let records: String = tool.carriers().map(record_line).collect();
-    ports + &records + "end\n"
+    let maps: String = tool.carriers().filter_map(|carrier| map_line(tool, carrier.name)).collect();
+    ports + &records + &maps + "end\n"
 }
 
 fn port_line(port: Port) -> String {
@@ -51,6 +52,11 @@ fn record_line(carrier: Carrier) -> String {
     let Carrier { place, spot, port, open, cancelled, came_out, id, slot, accessing, .. } = carrier;
     let (name, map) = (name(carrier.name), map(&carrier.map));
     format!("rec {name} {place} {spot} {port} {open} {cancelled} {came_out} {map} {id} {slot} {accessing}\n")
+}
+
+fn map_line(tool: &Tool, of: Name) -> Option<String> {
+    let map = tool.expected_map(of.as_bytes())?;
+    Some(format!("map {} {}\n", name(of), hex(map)))
 }
 
 fn name(name: Name) -> String {
@@ -76,7 +82,7 @@ fn hex(bytes: &[u8]) -> String {
 #[cfg(test)]
 pub mod tests {
     use super::*;
-    use hawsermole::Input;
+    use hawsermole::{ExpectedMap, Input};
 
     /// The tool after some inputs, all of them accepted.
     pub fn tool(ports: u32, places: u32, inputs: &[Input]) -> Tool {
@@ -140,6 +146,21 @@ pub mod tests {
         let map = "03".repeat(24) + "05";
         let expected = format!("port 1 1 1 0 - 0 0 0\nrec 4142 2 9 0 1 0 0 {map} 3 2 1\nend\n");
         assert_eq!(dump(&tool), expected);
+    }
+
+    /// In the order of the records, after all of them.
+    #[test]
+    fn dumps_of_expected_maps() {
+        let (ones, threes) = ([1; 25], [3; 25]);
+        let map = |codes| ExpectedMap::new(codes).unwrap();
+        let inputs = [
+            Input::CarrierNotificationWithMap { name: b"B", map: map(&ones) },
+            Input::CarrierNotification { name: b"C" },
+            Input::BindWithMap { port: 1, name: b"A", map: map(&threes) },
+        ];
+        let records = "rec 42 0 0 0 0 0 0 - 1 1 1\nrec 43 0 0 0 0 0 0 - 1 1 1\nrec 41 0 0 1 0 0 0 - 1 1 1\n";
+        let maps = format!("map 42 {}\nmap 41 {}\n", "01".repeat(25), "03".repeat(25));
+        assert_eq!(dump(&tool(1, 0, &inputs)), format!("port 1 1 0 1 41 0 0 0\n{records}{maps}end\n"));
     }
 
     #[test]

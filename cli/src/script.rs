@@ -1,5 +1,5 @@
 //! The reader of lines: what each line of a script asks for.
-use crate::values::{self, shown, Words};
+use crate::values::{self, shown, Words, NONE};
 use hawsermole::{Argument, Parts, Row, ROWS};
 
 /// What a line asks for.
@@ -81,11 +81,15 @@ fn read_named(first: &[u8], mut words: Words) -> Result<Command, String> {
     let mut sent = Sent { number: row.number, ..Sent::default() };
     for argument in row.arguments {
         let what = argument.name();
-        let word = words.argument(what, &usage)?;
+        let word = match (argument, words.next()) {
+            (_, Some(word)) => word,
+            (Argument::MapOrNone, None) => NONE,
+            (_, None) => return Err(values::missing(what, &usage)),
+        };
         match argument {
             Argument::Port | Argument::PortOrNone => sent.port = values::number(what, word)?,
             Argument::Name | Argument::NameOrNone => sent.name = values::text(word),
-            Argument::Codes => sent.codes = values::codes(what, word)?,
+            Argument::Codes | Argument::MapOrNone => sent.codes = values::codes(what, word)?,
             Argument::Access | Argument::Service | Argument::Place | Argument::End => {
                 sent.value = values::number(what, word)?
             }
@@ -95,12 +99,15 @@ fn read_named(first: &[u8], mut words: Words) -> Result<Command, String> {
     Ok(Command::Named(sent))
 }
 
-/// How a named input is written: `Bind PORT NAME`.
+/// How a named input is written: `MoveIn PORT PLACE`, `Bind PORT NAME [MAP]`.
 pub fn usage(row: &Row) -> String {
     let mut usage = String::from(row.name);
     for argument in row.arguments {
-        usage += " ";
-        usage += &argument.name().to_uppercase();
+        let word = argument.name().to_uppercase();
+        usage += &match argument {
+            Argument::MapOrNone => format!(" [{word}]"),
+            _ => format!(" {word}"),
+        };
     }
     usage
 }
@@ -157,9 +164,12 @@ mod tests {
     #[rustfmt::skip]
     fn every_named_input() {
         assert_eq!(named("Bind 1 AB"), sent(1, 1, 0, b"AB", b""));
+        assert_eq!(named("Bind 1 AB -"), sent(1, 1, 0, b"AB", b""));
+        assert_eq!(named("Bind 1 AB 1111111111111111111111111"), sent(1, 1, 0, b"AB", &[1; 25]));
         assert_eq!(named("CancelBind 0 AB"), sent(2, 0, 0, b"AB", b""));
         assert_eq!(named("CancelBind 1 -"), sent(2, 1, 0, b"", b""));
         assert_eq!(named("CarrierNotification AB"), sent(3, 0, 0, b"AB", b""));
+        assert_eq!(named("CarrierNotification AB 0103"), sent(3, 0, 0, b"AB", &[1, 3]));
         assert_eq!(named("CancelCarrierNotification AB"), sent(4, 0, 0, b"AB", b""));
         assert_eq!(named("ProceedWithCarrier AB 1"), sent(5, 1, 0, b"AB", b""));
         assert_eq!(named("CancelCarrier AB 1"), sent(6, 1, 0, b"AB", b""));
@@ -203,8 +213,9 @@ mod tests {
 
     #[test]
     fn missing_words() {
-        assert_eq!(error("Bind 1"), "name missing: expected Bind PORT NAME");
-        assert_eq!(error("Bind"), "port missing: expected Bind PORT NAME");
+        assert_eq!(error("Bind 1"), "name missing: expected Bind PORT NAME [MAP]");
+        assert_eq!(error("Bind"), "port missing: expected Bind PORT NAME [MAP]");
+        assert_eq!(error("SlotMap AB"), "codes missing: expected SlotMap NAME CODES");
         assert_eq!(error("setup 1"), "number of buffer places missing: expected setup P B");
         assert_eq!(error("in 1 1 0 4142"), "codes missing: expected in NUMBER PORT VALUE NAME CODES");
     }
@@ -212,6 +223,7 @@ mod tests {
     #[test]
     fn words_too_many() {
         assert_eq!(error("Open AB # now"), "'#' is one word too many: expected Open NAME");
+        assert_eq!(error("Bind 1 AB - -"), "'-' is one word too many: expected Bind PORT NAME [MAP]");
         assert_eq!(error("dump 1"), "'1' is one word too many: expected dump");
         assert_eq!(error("setup 1 0 0"), "'0' is one word too many: expected setup P B");
         assert_eq!(
@@ -227,5 +239,6 @@ mod tests {
         assert_eq!(error("ChangeAccess 1 AUTO"), "access: 'AUTO' is not a number from 0 to 4294967295");
         assert_eq!(error("in 1 1 0 AB1 -"), "name: 'AB1' is not pairs of hex digits, or - for none");
         assert!(error("SlotMap AB 333").starts_with("codes: '333' is not 25 digits, one for each slot, or"));
+        assert!(error("Bind 1 AB 333").starts_with("map: '333' is not 25 digits, one for each slot, or"));
     }
 }

@@ -2,6 +2,8 @@
 
 const NUMBER: &str = "a number from 0 to 4294967295";
 const HEX: &str = "pairs of hex digits, or - for none";
+/// No name, no codes.
+pub const NONE: &[u8] = b"-";
 /// What the codes of a slot map may be written as.
 pub const CODES: &str = "25 digits, one for each slot, or pairs of hex digits, or - for none";
 
@@ -19,7 +21,7 @@ impl<'a> Words<'a> {
 
     /// The next word, which must be there: `what` and `usage` are for the message.
     pub fn argument(&mut self, what: &str, usage: &str) -> Result<&'a [u8], String> {
-        self.next().ok_or_else(|| format!("{what} missing: expected {usage}"))
+        self.next().ok_or_else(|| missing(what, usage))
     }
 
     /// Nothing is left.
@@ -42,6 +44,11 @@ impl<'a> Iterator for Words<'a> {
         self.rest = rest;
         Some(word)
     }
+}
+
+/// The message for a word that isn't there.
+pub fn missing(what: &str, usage: &str) -> String {
+    format!("{what} missing: expected {usage}")
 }
 
 /// A word as it can be shown in a message.
@@ -67,7 +74,7 @@ pub fn hex(what: &str, word: &[u8]) -> Result<Vec<u8>, String> {
 
 fn hex_bytes(word: &[u8]) -> Option<Vec<u8>> {
     match word {
-        b"-" => Some(Vec::new()),
+        NONE => Some(Vec::new()),
         _ if !word.len().is_multiple_of(2) => None,
         _ => word.chunks(2).map(|pair| Some(hex_digit(pair[0])? << 4 | hex_digit(pair[1])?)).collect(),
     }
@@ -80,12 +87,12 @@ fn hex_digit(digit: u8) -> Option<u8> {
 /// A name as text: any bytes, `-` for none.
 pub fn text(word: &[u8]) -> Vec<u8> {
     match word {
-        b"-" => Vec::new(),
+        NONE => Vec::new(),
         _ => word.to_vec(),
     }
 }
 
-/// The codes of a slot map. 25 is odd, so that single digits are never taken for pairs of hex digits.
+/// The codes of a slot map or of an expected map. 25 is odd, so that single digits are never taken for pairs of hex digits.
 pub fn codes(what: &str, word: &[u8]) -> Result<Vec<u8>, String> {
     let single = word.len() == hawsermole::SLOTS && word.iter().all(u8::is_ascii_digit);
     match single {
