@@ -2,7 +2,8 @@
 //!
 //! The search is complete within its bounds: all runs, of any length, of the tools in [`SETUPS`] with inputs made
 //! of the ports of the tool (and 0), the names in [`NAMES`] (and none), every buffer place, both values of every
-//! choice, and one slot map. A tool that was met before isn't followed again, so the search ends by itself.
+//! choice, one expected map (and none), and two slot maps, of which one is the expected one. A tool that was met before
+//! isn't followed again, so the search ends by itself.
 use hawsermole::{Argument, Input, Model, Parts, Reports, Row, Tool, ROWS, TOOL_BYTES};
 use std::collections::{BTreeMap, BTreeSet, HashSet, VecDeque};
 
@@ -12,7 +13,9 @@ pub const SETUPS: [(u32, u32); 2] = [(1, 0), (1, 1)];
 pub const NAMES: [&[u8]; 2] = [b"A", b"B"];
 
 const NO_NAME: &[u8] = b"";
+const NO_MAP: &[u8] = b"";
 const MAP: &[u8] = &[3; hawsermole::SLOTS];
+const OTHER_MAP: &[u8] = &[1; hawsermole::SLOTS];
 
 /// A transition of a model: from old to new, by an input.
 #[derive(Clone, Copy, Debug, PartialEq, Eq, PartialOrd, Ord)]
@@ -22,7 +25,8 @@ pub struct Edge {
     pub new: u8,
 }
 
-/// What causes a transition: a row, with its value where the row's value is a choice of two.
+/// What causes a transition: a row, with its value where the row's value is a choice of two. For a slot map the value is
+/// 1 where it is the expected one, else 0.
 #[derive(Clone, Copy, Debug, PartialEq, Eq, PartialOrd, Ord)]
 pub struct Cause {
     pub number: u32,
@@ -58,10 +62,10 @@ pub fn explore() -> Found {
 pub fn explore_from(ports: u32, places: u32, names: &[&[u8]], found: &mut Found) {
     let start = Tool::setup(ports, places).expect("the bounds are a tool's");
     found.first.extend(start.ports().flat_map(states_at));
-    let tools = each_step(ports, places, names, |_, input, reports| {
+    let tools = each_step(ports, places, names, |tool, input, reports| {
         for report in reports {
             let edge = Edge { model: report.model, old: report.old, new: report.new };
-            found.note(edge, cause(input), places);
+            found.note(edge, cause(tool, input), places);
         }
     });
     found.tools += tools;
@@ -111,14 +115,19 @@ impl Found {
     }
 }
 
-fn cause(input: &Input) -> Cause {
-    let choice = choice(input.row()).map(|_| input.parts().value);
-    Cause { number: input.number(), choice }
+fn cause(tool: &Tool, input: &Input) -> Cause {
+    let parts = input.parts();
+    let as_expected = || tool.expected_map(parts.name).is_some_and(|map| map == parts.codes);
+    let choice = choice(input.row()).map(|argument| match argument {
+        Argument::Codes => u32::from(as_expected()),
+        _ => parts.value,
+    });
+    Cause { number: parts.number, choice }
 }
 
 /// The argument that is a choice of two, in the rows that have one.
 pub fn choice(row: &Row) -> Option<Argument> {
-    let choices = [Argument::Access, Argument::Service, Argument::End];
+    let choices = [Argument::Access, Argument::Service, Argument::End, Argument::Codes];
     row.arguments.iter().copied().find(|argument| choices.contains(argument))
 }
 
@@ -146,6 +155,7 @@ fn with<'a>(
     let port = |port| Parts { port, ..*parts };
     let name = |name| Parts { name, ..*parts };
     let value = |value| Parts { value, ..*parts };
+    let codes = |codes| Parts { codes, ..*parts };
     let named = names.iter().copied();
     match argument {
         Argument::Port => (1..=ports).map(port).collect(),
@@ -154,6 +164,7 @@ fn with<'a>(
         Argument::NameOrNone => named.chain([NO_NAME]).map(name).collect(),
         Argument::Access | Argument::Service | Argument::End => (0..=1).map(value).collect(),
         Argument::Place => (1..=places).map(value).collect(),
-        Argument::Codes => vec![Parts { codes: MAP, ..*parts }],
+        Argument::Codes => [MAP, OTHER_MAP].map(codes).into(),
+        Argument::MapOrNone => [NO_MAP, MAP].map(codes).into(),
     }
 }

@@ -25,13 +25,15 @@ pub fn cause(cause: Cause, kinds: Kinds) -> String {
     }
 }
 
-/// Document 01's word for one of two values.
+/// The word for one of two values: document 01's, where it is a number of the input's.
 fn value_word(argument: Argument, value: u32) -> &'static str {
     match (argument, value) {
         (Argument::Access, 0) => "MANUAL",
         (Argument::Access, _) => "AUTO",
         (Argument::Service, 0) => "out",
         (Argument::Service, _) => "in",
+        (Argument::Codes, 0) => "otherwise",
+        (Argument::Codes, _) => "as expected",
         (_, 0) => "complete",
         (_, _) => "stopped",
     }
@@ -78,6 +80,8 @@ mod tests {
         assert_eq!(named(9, Some(1), BOTH), "ChangeAccess: AUTO");
         assert_eq!(named(10, Some(0), BOTH), "ChangeServiceStatus: out");
         assert_eq!(named(22, Some(1), BOTH), "AccessEnd: stopped");
+        assert_eq!(named(20, Some(1), BOTH), "SlotMap: as expected");
+        assert_eq!(named(20, Some(0), BOTH), "SlotMap: otherwise");
         assert_eq!(named(18, None, Kinds { fixed: false, internal: true }), "MoveIn (I)");
         assert_eq!(named(23, None, Kinds { fixed: true, internal: false }), "Close (F)");
     }

@@ -51,14 +51,15 @@ fn codes(words: &[&str]) -> Vec<u8> {
 fn read<'a>(words: &[&'a str], codes: &'a [u8]) -> Option<Input<'a>> {
     let row = Row::named(words[0])?;
     let mut parts = Parts { number: row.number, ..Parts::default() };
-    if words.len() != row.arguments.len() + 1 {
+    let needed = row.arguments.iter().filter(|argument| **argument != Argument::MapOrNone).count();
+    if !(needed..=row.arguments.len()).contains(&(words.len() - 1)) {
         return None;
     }
     for (argument, word) in row.arguments.iter().zip(&words[1..]) {
         match argument {
             Argument::Port | Argument::PortOrNone => parts.port = word.parse().ok()?,
             Argument::Name | Argument::NameOrNone => parts.name = word.as_bytes(),
-            Argument::Codes => parts.codes = codes,
+            Argument::Codes | Argument::MapOrNone => parts.codes = codes,
             _ => parts.value = word.parse().ok()?,
         }
     }
@@ -69,7 +70,7 @@ fn read<'a>(words: &[&'a str], codes: &'a [u8]) -> Option<Input<'a>> {
 fn changes(before: &Tool, after: &Tool) -> String {
     let old = |carrier: &Carrier| before.carriers().any(|old| old == *carrier);
     let ports = after.ports().zip(before.ports()).filter(|(now, then)| now != then).map(|(now, _)| port(now));
-    let carriers = after.carriers().filter(|now| !old(now)).map(carrier);
+    let carriers = after.carriers().filter(|now| !old(now)).map(|now| carrier(after, now));
     let stays = |gone: &Carrier| after.carriers().any(|now| now.name == gone.name);
     let gone = before.carriers().filter(|then| !stays(then)).map(|then| format!("{}: no record", then.name));
     let all: Vec<String> = ports.chain(carriers).chain(gone).collect();
@@ -99,7 +100,7 @@ fn port(port: Port) -> String {
     text
 }
 
-fn carrier(carrier: Carrier) -> String {
+fn carrier(tool: &Tool, carrier: Carrier) -> String {
     let place = match carrier.place {
         0 => "expected".into(),
         1 => format!("at port {}", carrier.port),
@@ -108,7 +109,10 @@ fn carrier(carrier: Carrier) -> String {
     let open = if carrier.open == 0 { "closed" } else { "open" };
     let Carrier { name, id, slot, accessing, .. } = carrier;
     let mut text = format!("{name}: {place}, {open}, ID {id}, slot {slot}, accessing {accessing}");
-    for (flag, word) in [(carrier.cancelled, ", cancelled"), (carrier.came_out, ", came out")] {
+    let map = u8::from(tool.expected_map(name.as_bytes()).is_some());
+    for (flag, word) in
+        [(carrier.cancelled, ", cancelled"), (carrier.came_out, ", came out"), (map, ", map expected")]
+    {
         if flag != 0 {
             text += word;
         }
@@ -134,6 +138,18 @@ mod tests {
                 "| ChangeAccess(1, 0) | `0  none` | as before |",
             ]
         );
+    }
+
+    #[test]
+    fn expected_maps_are_told() {
+        let rows = walk("setup 1 0\nBind 1 AB 1111111111111111111111111\nCarrierNotification AC\n").unwrap();
+        assert!(rows[0].starts_with("| Bind(1, AB, 25 codes) | `0  3 1 0>1;"), "{}", rows[0]);
+        assert!(
+            rows[0].ends_with("AB: expected, closed, ID 1, slot 1, accessing 1, map expected |"),
+            "{}",
+            rows[0]
+        );
+        assert!(rows[1].ends_with("AC: expected, closed, ID 1, slot 1, accessing 1 |"), "{}", rows[1]);
     }
 
     #[test]

@@ -1,4 +1,5 @@
-//! What the search finds is what document 01's rows say, row by row, and nothing else.
+//! What the search finds is what document 01's rows say, row by row, row 20 with the expected map of request P1, and
+//! nothing else.
 use diagrams::explore::{explore, Found};
 use std::collections::{BTreeMap, BTreeSet};
 use std::sync::LazyLock;
@@ -25,7 +26,7 @@ const ROWS: [(u32, &str); 24] = [
     (16, "4 0>1, 4 1>1, 5 0>2, 5 1>0, 5 1>2, 5 1>3, 6 0>1, 6 1>0, 7 0>1, 7 1>0"),
     (17, "5 1>2"),
     (18, "1 3>1, 4 1>0"),
-    (20, "6 1>2"),
+    (20, "6 1>2, 6 1>3"),
     (21, "7 1>2"),
     (22, "7 2>3, 7 2>4"),
     (23, "1 3>2"),
@@ -65,6 +66,7 @@ fn choices_lead_where_document_01_says() {
     assert_eq!(lead(9), [(0, 1, Some(1)), (1, 0, Some(0))]);
     assert_eq!(lead(10), [(0, 1, Some(1)), (1, 0, Some(0))]);
     assert_eq!(lead(22), [(2, 3, Some(0)), (2, 4, Some(1))]);
+    assert_eq!(lead(20), [(1, 2, Some(0)), (1, 3, Some(1))]);
     assert_eq!(lead(11), [(0, 1, None)]);
 }
 
