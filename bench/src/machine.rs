@@ -1,7 +1,8 @@
 //! A step of either program, as one kind of function.
 
 use hawsermole::raw;
-use independent::{Plain, Reports, Tool};
+use independent::requests::Tool;
+use independent::{Plain, Reports};
 
 pub type Step = fn(&mut Tool, u32, u32, u32, &[u8], &[u8], &mut Reports) -> u32;
 

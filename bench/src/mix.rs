@@ -1,8 +1,12 @@
 //! A run that is kept near a number of live carriers, recorded so that both programs play the same inputs.
 
 use hawsermole::Parts;
-use independent::gen::{random_run_input, Rng};
-use independent::{setup, step, Reports, Tool, MAX_CARRIERS};
+use independent::gen::requests::random_run_input;
+use independent::gen::Rng;
+use independent::requests::{setup, step, Tool};
+use independent::{status, Reports, MAX_CARRIERS};
+
+const SLOT_MAP: u32 = 20;
 
 /// An input whose bytes stand one after another with those of the others, so that reading them costs little.
 struct Recorded {
@@ -19,6 +23,8 @@ pub struct Mix {
     bytes: Vec<u8>,
     accepted: u64,
     live: u64,
+    /// Slot maps that were the expected ones.
+    pub at_once: u64,
 }
 
 impl Mix {
@@ -58,19 +64,21 @@ pub fn record(count: usize, carriers: usize) -> Mix {
     let near = carriers.saturating_sub(2)..=carriers + 2;
     let mut rng = Rng::new(26);
     let mut tool = reach(carriers, &mut rng);
-    let mut mix =
-        Mix { start: tool, inputs: Vec::with_capacity(count), bytes: Vec::new(), accepted: 0, live: 0 };
+    let inputs = Vec::with_capacity(count);
+    let mut mix = Mix { start: tool, inputs, bytes: Vec::new(), accepted: 0, live: 0, at_once: 0 };
     while mix.inputs.len() < count {
         let i = random_run_input(&tool, &mut rng);
         let mut next = tool;
         let mut reports = Reports::NONE;
         let answer = step(&mut next, i.number, i.port, i.value, &i.name, &i.codes, &mut reports);
-        if !near.contains(&next.count) {
+        if !near.contains(&next.base.count) {
             continue;
         }
         tool = next;
         mix.accepted += (answer == 0) as u64;
-        mix.live += tool.count as u64;
+        mix.live += tool.base.count as u64;
+        let judged = answer == 0 && i.number == SLOT_MAP && reports.items[0].new == status::OK;
+        mix.at_once += judged as u64;
         let (name, codes) = (mix.keep(&i.name), mix.keep(&i.codes));
         mix.inputs.push(Recorded { number: i.number, port: i.port, value: i.value, name, codes });
     }
@@ -83,8 +91,8 @@ fn reach(carriers: u8, rng: &mut Rng) -> Tool {
     setup(4, 16, &mut tool);
     let mut reports = Reports::NONE;
     loop {
-        let buffered = tool.carriers().iter().filter(|c| c.in_buffer()).count();
-        if tool.count == carriers && buffered >= carriers as usize / 3 {
+        let buffered = tool.base.carriers().iter().filter(|c| c.in_buffer()).count();
+        if tool.base.count == carriers && buffered >= carriers as usize / 3 {
             return tool;
         }
         let i = random_run_input(&tool, rng);

@@ -3,7 +3,8 @@
 
 use hawsermole::{Row, ROWS};
 use independent::gen::{Input, Rng};
-use independent::{Reports, Tool};
+use independent::requests::Tool;
+use independent::Reports;
 
 use crate::machine::caller_of_hm_step;
 use crate::mix::record;
@@ -21,7 +22,7 @@ pub fn mix(count: usize, carriers: usize) {
     let mut tool = mix.start;
     let mut reports = Reports::NONE;
     for i in mix.inputs() {
-        let live = tool.count;
+        let live = tool.base.count;
         let answer = caller_of_hm_step(&mut tool, i.number, i.port, i.value, i.name, i.codes, &mut reports);
         println!("{live} {} {answer} mixed", i.number);
     }
@@ -32,7 +33,7 @@ fn call(tool: &Tool, i: &Input, names: &str) {
     let mut reports = Reports::NONE;
     let answer = caller_of_hm_step(&mut next, i.number, i.port, i.value, &i.name, &i.codes, &mut reports);
     let name = String::from_utf8_lossy(&i.name);
-    let (carriers, number, port, value, codes) = (tool.count, i.number, i.port, i.value, i.codes.len());
+    let (carriers, number, port, value, codes) = (tool.base.count, i.number, i.port, i.value, i.codes.len());
     println!("{carriers} {number} {answer} {names} {port} {value} {name} {codes}");
 }
 

@@ -1,8 +1,10 @@
-//! Prepared states: sound tools of P = 4 and B = 16 with a given number of records, and an input for each.
+//! Prepared states: sound tools of P = 4 and B = 16 with a given number of records, with and without expected maps, and
+//! an input for each.
 
 use independent::gen::{padded, pool_name, shuffle, Input, Rng, POOL};
-use independent::{accessing, movement, place, setup, sound, status, step, tag, transfer};
-use independent::{Carrier, Plain, Port, Reports, Tool, MAX_CARRIERS, NAME_LEN};
+use independent::requests::{setup, sound, step, Tool};
+use independent::{accessing, movement, place, status, tag, transfer};
+use independent::{Carrier, Plain, Port, Reports, MAP_LEN, MAX_CARRIERS, NAME_LEN};
 
 /// Families of names, each slow to tell apart in another way.
 pub const FAMILIES: [&str; 6] = ["mixed", "prefix", "suffix", "middle", "short", "permuted"];
@@ -76,16 +78,24 @@ fn statuses(c: &mut Carrier, rng: &mut Rng) {
     }
 }
 
+/// A map that can be expected; many are equal but for the last slot.
+fn map(rng: &mut Rng) -> [u8; MAP_LEN] {
+    let mut map = [3; MAP_LEN];
+    map[MAP_LEN - 1] = rng.pick(&[1, 3]);
+    map
+}
+
 /// A sound tool with so many records.
 fn tool(carriers: usize, family: usize, rng: &mut Rng) -> Tool {
     let mut tool = Tool::NONE;
     setup(4, 16, &mut tool);
-    tool.port = [0; 4].map(|_| port(rng));
+    tool.base.port = [0; 4].map(|_| port(rng));
     let mut seats: Vec<Carrier> = (0..MAX_CARRIERS).map(seat).collect();
     shuffle(&mut seats, rng);
     seats.truncate(carriers);
     let mut free: Vec<u8> = (1..=4).filter(|&p| seats.iter().all(|c| c.port != p)).collect();
-    let (tying, opened) = (rng.pick(&[0, 0, 25]), rng.below(carriers as u32 + 1) as usize);
+    let (tying, mapped) = (rng.pick(&[0, 0, 25]), rng.pick(&[0, 50, 100]));
+    let opened = rng.below(carriers as u32 + 1) as usize;
     for (k, mut c) in seats.into_iter().enumerate() {
         c.name = padded(&name(family, k as u32));
         statuses(&mut c, rng);
@@ -93,13 +103,16 @@ fn tool(carriers: usize, family: usize, rng: &mut Rng) -> Tool {
             c.port = free.pop().unwrap_or(0);
         }
         if c.port != 0 {
-            tool.port[c.port as usize - 1].tie = c.name;
+            tool.base.port[c.port as usize - 1].tie = c.name;
         }
-        let at = &tool.port[(c.port as usize).max(1) - 1];
+        let at = &tool.base.port[(c.port as usize).max(1) - 1];
         let opener = c.in_buffer() || c.at_port() && at.idle() && at.transfer == transfer::BLOCKED;
         c.open = (opener && (k == opened || c.at_port() && rng.chance(50))) as u8;
-        tool.carrier[k] = c;
-        tool.count += 1;
+        tool.base.carrier[k] = c;
+        tool.base.count += 1;
+        if rng.chance(mapped) {
+            tool.maps[k] = map(rng);
+        }
     }
     assert!(sound(&tool), "a prepared state is sound");
     tool
@@ -135,21 +148,33 @@ pub fn damaged(tool: &Tool, rng: &mut Rng) -> Tool {
 fn input(tool: &Tool, row: u32, family: usize, accepted: bool, rng: &mut Rng) -> Input {
     let mut input = Input::default();
     for _ in 0..30 {
-        let names = if rng.chance(70) { tool.count as u32 + 1 } else { POOL };
+        let names = if rng.chance(70) { tool.base.count as u32 + 1 } else { POOL };
         let k = rng.below(names);
         input = Input {
             number: row,
             port: if matches!(row, 2 | 5 | 6) { rng.below(5) } else { 1 + rng.below(4) },
             value: if row == 18 { 1 + rng.below(16) } else { rng.below(2) },
             name: name(family, k),
-            // A row that doesn't name the codes ignores them, but they may cost something.
-            codes: if row == 20 || rng.chance(50) { vec![rng.below(6) as u8; 25] } else { Vec::new() },
+            codes: codes(tool, row, k as usize, rng),
         };
         if (answer(tool, &input) == 0) == accepted {
             break;
         }
     }
     input
+}
+
+/// Codes for a row and the name of record `k`.
+fn codes(tool: &Tool, row: u32, k: usize, rng: &mut Rng) -> Vec<u8> {
+    match row {
+        1 | 3 if rng.chance(50) => map(rng).to_vec(),
+        1 | 3 => Vec::new(),
+        20 if k < MAX_CARRIERS && tool.expected_map(k).is_some() && rng.chance(70) => tool.maps[k].to_vec(),
+        20 => vec![rng.below(6) as u8; MAP_LEN],
+        // A row that doesn't name the codes ignores them, but they may cost something.
+        _ if rng.chance(50) => vec![rng.below(6) as u8; MAP_LEN],
+        _ => Vec::new(),
+    }
 }
 
 fn answer(tool: &Tool, i: &Input) -> u32 {
@@ -175,9 +200,23 @@ mod tests {
         let mut rng = Rng::new(1);
         for carriers in 0..=MAX_CARRIERS {
             for family in 0..FAMILIES.len() {
-                assert_eq!(tool(carriers, family, &mut rng).count as usize, carriers);
+                assert_eq!(tool(carriers, family, &mut rng).base.count as usize, carriers);
             }
         }
+    }
+
+    #[test]
+    fn some_slot_maps_are_as_expected_and_some_are_not() {
+        let mut rng = Rng::new(3);
+        let met = |expected: bool| {
+            move |(tool, input): &(Tool, Input)| {
+                let named = tool.base.carriers().iter().position(|c| c.name == padded(&input.name));
+                named
+                    .is_some_and(|k| tool.expected_map(k).is_some_and(|map| (input.codes == map) == expected))
+            }
+        };
+        let prepared: Vec<_> = (0..200).map(|_| prepared(30, 0, 20, true, &mut rng)).collect();
+        assert!(prepared.iter().any(met(true)) && prepared.iter().any(met(false)));
     }
 
     #[test]

@@ -3,7 +3,8 @@
 use std::hint::black_box;
 use std::time::Instant;
 
-use independent::{step, step_known_sound, Plain, Reports, Tool};
+use independent::requests::{step, step_known_sound, Tool};
+use independent::{Plain, Reports};
 
 use crate::machine::{caller_of_hm_step, reading_alone, Step};
 use crate::mix::{record, Mix};
@@ -26,12 +27,9 @@ pub fn time(count: usize, rounds: usize) -> Result<(), String> {
             "answers, reports or final tools differ: digests {digests:x?}; run the comparison"
         ));
     }
-    println!(
-        "{count} inputs, P = 4, B = 16, {:.1} live carriers, {:.1} % accepted; digest of both {:016x}",
-        mix.live(),
-        mix.percent_accepted(),
-        digests[0],
-    );
+    let (live, accepted) = (mix.live(), mix.percent_accepted());
+    println!("{count} inputs, P = 4, B = 16, {live:.1} live carriers, {accepted:.1} % accepted");
+    println!("{} slot maps OK at once; digest of both {:016x}", mix.at_once, digests[0]);
     let mut least = [f64::INFINITY; STEPS.len()];
     for _ in 0..rounds {
         for (least, (_, step)) in least.iter_mut().zip(STEPS) {
