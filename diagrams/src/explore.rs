@@ -2,8 +2,8 @@
 //!
 //! The search is complete within its bounds: all runs, of any length, of the tools in [`SETUPS`] with inputs made
 //! of the ports of the tool (and 0), the names in [`NAMES`] (and none), every buffer place, both values of every
-//! choice, one expected map (and none), and two slot maps, of which one is the expected one. A tool that was met before
-//! isn't followed again, so the search ends by itself.
+//! choice, one expected map (and none), and one slot map, which equals it. A tool that was met before isn't followed
+//! again, so the search ends by itself.
 use hawsermole::{Argument, Input, Model, Parts, Reports, Row, Tool, ROWS, TOOL_BYTES};
 use std::collections::{BTreeMap, BTreeSet, HashSet, VecDeque};
 
@@ -15,7 +15,6 @@ pub const NAMES: [&[u8]; 2] = [b"A", b"B"];
 const NO_NAME: &[u8] = b"";
 const NO_MAP: &[u8] = b"";
 const MAP: &[u8] = &[3; hawsermole::SLOTS];
-const OTHER_MAP: &[u8] = &[1; hawsermole::SLOTS];
 
 /// A transition of a model: from old to new, by an input.
 #[derive(Clone, Copy, Debug, PartialEq, Eq, PartialOrd, Ord)]
@@ -164,7 +163,7 @@ fn with<'a>(
         Argument::NameOrNone => named.chain([NO_NAME]).map(name).collect(),
         Argument::Access | Argument::Service | Argument::End => (0..=1).map(value).collect(),
         Argument::Place => (1..=places).map(value).collect(),
-        Argument::Codes => [MAP, OTHER_MAP].map(codes).into(),
+        Argument::Codes => vec![codes(MAP)],
         Argument::MapOrNone => [NO_MAP, MAP].map(codes).into(),
     }
 }
