@@ -39,7 +39,8 @@ pub fn named(given: &Answer) -> String {
 pub fn dump(tool: &Tool) -> String {
     let ports: String = tool.ports().map(port_line).collect();
     let records: String = tool.carriers().map(record_line).collect();
-    let maps: String = tool.carriers().filter_map(|carrier| map_line(tool, carrier.name)).collect();
+    let maps: String =
+        tool.expected_maps().map(|(of, map)| format!("map {} {}\n", name(of), hex(map))).collect();
     ports + &records + &maps + "end\n"
 }
 
@@ -52,11 +53,6 @@ fn record_line(carrier: Carrier) -> String {
     let Carrier { place, spot, port, open, cancelled, came_out, id, slot, accessing, .. } = carrier;
     let (name, map) = (name(carrier.name), map(&carrier.map));
     format!("rec {name} {place} {spot} {port} {open} {cancelled} {came_out} {map} {id} {slot} {accessing}\n")
-}
-
-fn map_line(tool: &Tool, of: Name) -> Option<String> {
-    let map = tool.expected_map(of.as_bytes())?;
-    Some(format!("map {} {}\n", name(of), hex(map)))
 }
 
 fn name(name: Name) -> String {

@@ -171,14 +171,14 @@ impl Tool {
     /// assert_eq!((tool.expected_map(b"B"), tool.expected_map(b"C")), (None, None));
     /// ```
     pub fn expected_map(&self, name: &[u8]) -> Option<&[u8; SLOTS]> {
-        let place = self.carriers().position(|carrier| carrier.name.as_bytes() == name)?;
-        let (maps, _) = self.bytes[MAPS_START..].as_chunks();
-        Some(&maps[place]).filter(|map| **map != [0; SLOTS])
+        self.expected_maps().find(|(of, _)| of.as_bytes() == name).map(|(_, map)| map)
     }
 
-    fn expected_maps(&self) -> impl Iterator<Item = (Name, &[u8; SLOTS])> {
-        self.carriers()
-            .filter_map(|carrier| Some((carrier.name, self.expected_map(carrier.name.as_bytes())?)))
+    /// The carriers whose records have an expected map, in the order of [`carriers`](Tool::carriers), with its codes.
+    pub fn expected_maps(&self) -> impl Iterator<Item = (Name, &[u8; SLOTS])> {
+        let (maps, _) = self.bytes[MAPS_START..].as_chunks();
+        let given = self.carriers().zip(maps).filter(|(_, map)| **map != [0; SLOTS]);
+        given.map(|(carrier, map)| (carrier.name, map))
     }
 }
 
