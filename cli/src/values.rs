@@ -92,7 +92,8 @@ pub fn text(word: &[u8]) -> Vec<u8> {
     }
 }
 
-/// The codes of a slot map or of an expected map. 25 is odd, so that single digits are never taken for pairs of hex digits.
+/// The codes of a slot map or of an expected map. 25 is odd, so that single digits are never taken for pairs of
+/// hex digits.
 pub fn codes(what: &str, word: &[u8]) -> Result<Vec<u8>, String> {
     let single = word.len() == hawsermole::SLOTS && word.iter().all(u8::is_ascii_digit);
     match single {

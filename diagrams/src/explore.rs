@@ -24,8 +24,8 @@ pub struct Edge {
     pub new: u8,
 }
 
-/// What causes a transition: a row, with its value where the row's value is a choice of two. For a slot map the value is
-/// 1 where it is the expected one, else 0.
+/// What causes a transition: a row, with its value where the row's value is a choice of two. For a slot map the value
+/// is 1 where it is the expected one, else 0.
 #[derive(Clone, Copy, Debug, PartialEq, Eq, PartialOrd, Ord)]
 pub struct Cause {
     pub number: u32,

@@ -247,7 +247,7 @@ static void other_inputs_bring_no_map(void)
     CHECK(maps_are(0, 0, 0) && tool.count == 3);
 }
 
-/* Each byte after document 01's tool with each value below 8: what was there is sound, and another map, nothing else. */
+/* Each byte after document 01's tool with each value below 8: sound are what was there and another map alone. */
 static void damage_is_seen(void)
 {
     hm_tool good;
