@@ -5,4 +5,4 @@ pub move-in-effect-spec : {M : Type 1} → statement M
 move-in-effect-spec =
     tie.close
     (tie.spec (λ c κs. tt) (λ c κs. tt) (λ c κs. tt)
-    (λ c. cc))
+    (λ c. rw (c .on-both .ensures, c .before .moved-in .ensures, c .before .before .emptied .ensures)))

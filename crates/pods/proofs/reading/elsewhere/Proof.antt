@@ -6,4 +6,4 @@ pub elsewhere-spec : {M : Type 1} → statement M
 unfolding elsewhere
 elsewhere-spec =
     tie.close
-    (tie.spec (λ c κs. tt) (λ c κs. tt) (λ c. cc))
+    (tie.spec (λ c κs. tt) (λ c κs. tt) (λ c. rw (c .other-port .ensures, c .before .before .before .placed .ensures)))

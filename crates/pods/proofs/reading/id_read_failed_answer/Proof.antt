@@ -5,4 +5,4 @@ pub id-read-failed-answer-spec : {M : Type 1} → statement M
 id-read-failed-answer-spec =
     tie.close
     (tie.spec (λ c κs. tt) (λ c κs. tt) (λ c κs. tt)
-    (λ c. cc))
+    (λ c. rw (c .first2 .ensures, c .before .first .ensures, c .before .before .readable .ensures)))

@@ -7,4 +7,4 @@ unfolding cancelAt
 cancel-at-spec =
     tie.close
     (tie.spec (λ c κs. tt) (λ c κs. tt) (λ c κs. tt)
-    (λ c. cc))
+    (λ c. rw (c .first2 .ensures, c .before .first .ensures, c .before .before .before .placed .ensures)))

@@ -7,4 +7,10 @@ unfolding cancelPort
 cancel-port-spec =
     tie.close
     (tie.spec (λ c κs. tt) (λ c κs. tt) (λ c κs. tt) (λ c κs. tt) (λ c κs. tt)
-    (λ c. cc))
+    (λ c. rw (
+      c .either-port2 .ensures,
+      c .before .tied-to .ensures,
+      c .before .before .either-port .ensures,
+      c .before .before .before .none .ensures,
+      c .before .before .before .before .before .placed .ensures,
+    )))

@@ -3,4 +3,4 @@ use Rattle.ports.proofs.booking.cancel_carrier_notification_effect.Tie 
 
 pub cancel-carrier-notification-effect-spec : {M : Type 1} → statement M
 cancel-carrier-notification-effect-spec =
-    tie.close (tie.spec (λ c κs. tt) (λ c κs. tt) (λ c. cc))
+    tie.close (tie.spec (λ c κs. tt) (λ c κs. tt) (λ c. rw (c .on-port-and-gone .ensures, c .before .none .ensures)))

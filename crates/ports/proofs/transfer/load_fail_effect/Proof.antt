@@ -2,4 +2,4 @@ use Rattle.ports.proofs.transfer.load_fail_effect.Statement.{statement}
 use Rattle.ports.proofs.transfer.load_fail_effect.Tie as tie
 
 pub load-fail-effect-spec : {M : Type 1} → statement M
-load-fail-effect-spec = tie.close (tie.spec (λ c κs. tt) (λ c κs. tt) (λ c. cc))
+load-fail-effect-spec = tie.close (tie.spec (λ c κs. tt) (λ c κs. tt) (λ c. rw (c .on-port .ensures, c .before .not-loaded .ensures)))

@@ -2,4 +2,4 @@ use Rattle.ports.proofs.transfer.unload_done_answer.Statement.{statemen
 use Rattle.ports.proofs.transfer.unload_done_answer.Tie as tie
 
 pub unload-done-answer-spec : {M : Type 1} → statement M
-unload-done-answer-spec = tie.close (tie.spec (λ c κs. tt) (λ c κs. tt) (λ c. cc))
+unload-done-answer-spec = tie.close (tie.spec (λ c κs. tt) (λ c κs. tt) (λ c. rw (c .first2 .ensures, c .before .first .ensures)))

@@ -2,4 +2,4 @@ use Rattle.ports.proofs.transfer.unload_start_answer.Statement.{stateme
 use Rattle.ports.proofs.transfer.unload_start_answer.Tie as tie
 
 pub unload-start-answer-spec : {M : Type 1} → statement M
-unload-start-answer-spec = tie.close (tie.spec (λ c κs. tt) (λ c κs. tt) (λ c. cc))
+unload-start-answer-spec = tie.close (tie.spec (λ c κs. tt) (λ c κs. tt) (λ c. rw (c .first2 .ensures, c .before .first .ensures)))
