@@ -11,9 +11,9 @@ from definition_operators import Right
 from operators import KINDS
 
 
-# Files of rules/specs that are tables of cases and what these need: definitions are tried against them.
+# Files of specs/ that are tables of cases and what these need: definitions are tried against them.
 TABLES = ("Inputs", "TwelveRows", "EveryRow", "EveryPair", "Reachable", "Conditions", "Pairs", "Effects", "Clauses",
-          "Edges")
+          "Edges", "Judged")
 
 
 def is_table(file):

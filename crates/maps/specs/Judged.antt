@@ -4,8 +4,11 @@ use mathlib.Core.Bool.{Bool, true, _&&_}
 use mathlib.Core.List.{List, [], _∷_, _++_}
 use lib.ListN.{replicate}
 use lib.Dec.{eqb}
+use Rattle.rules.specs.declared.report.Report.{Report}
 use Rattle.rules.specs.Seen.{Input, inputOf, see}
-use Rattle.rules.specs.Inputs.{CancelCarrierNotification, ProceedWithCarrier, LoadStart, LoadDone, IdRead, Open, SlotMap}
+use Rattle.rules.specs.Run.{onName}
+use Rattle.rules.specs.Pairs.{port, carrier, state}
+use Rattle.rules.specs.Inputs.{CancelCarrierNotification, ProceedWithCarrier, LoadStart, LoadDone, IdRead, IdReadFailed, Open, SlotMap, zeros}
 use Rattle.maps.specs.State.{Mapped, start}
 use Rattle.maps.specs.Outcome.{answerIn, stateAfter}
 
@@ -81,7 +84,9 @@ cases =
     ∷ case [] (Bind 1 AB (with 2)) 1 0
     ∷ case [] (CarrierNotification AB full) 0 1
     ∷ case [] (CarrierNotification AB (with 2)) 1 0
+    ∷ case [] (CarrierNotification AB (with 0)) 1 0
     ∷ case [] (CarrierNotification AB (replicate 24 3)) 1 0
+    ∷ case [] (CarrierNotification AB (replicate 26 3)) 1 0
     -- refused with 1 before 3
     ∷ case (CarrierNotification AB [] ∷ []) (Bind 1 AB []) 3 1
     ∷ case (CarrierNotification AB [] ∷ []) (Bind 1 AB (with 2)) 1 1
@@ -98,7 +103,21 @@ cases =
     ∷ case (Bind 1 AB full ∷ arrives AC ++ proceeds AC ++ opens AC) (SlotMap AC full) 0 2
     ∷ case (CarrierNotification AC full ∷ Bind 1 AB last ∷ arrives AC ++ proceeds AC ++ opens AC) (SlotMap AC full) 0 3
     ∷ case (Bind 1 AB last ∷ CarrierNotification AC full ∷ arrives AC ++ proceeds AC ++ opens AC) (SlotMap AC full) 0 3
+    -- a record that IdRead or ProceedWithCarrier makes has none, whatever codes came with these
+    ∷ case (LoadStart 1 ∷ LoadDone 1 ∷ inputOf 16 1 0 AB full ∷ proceeds AB ++ opens AB) (SlotMap AB full) 0 2
+    ∷ case (LoadStart 1 ∷ LoadDone 1 ∷ IdReadFailed 1 ∷ inputOf 5 1 0 AB full ∷ opens AB) (SlotMap AB full) 0 2
     -- a map goes with its record, and the others keep theirs
     ∷ case (CarrierNotification AB full ∷ CancelCarrierNotification AB ∷ arrives AB ++ proceeds AB ++ opens AB) (SlotMap AB full) 0 2
     ∷ case (CarrierNotification AC last ∷ Bind 1 AB full ∷ CancelCarrierNotification AC ∷ arrives AB ++ opens AB) (SlotMap AB full) 0 3
     ∷ []
+
+-- ── On every sound state: an open carrier whose ID waits, which no run comes to; its slot status is OK at once ──
+abbrev pub unverified : Mapped
+unverified = record { base = state 0 (port 3 0 0 AB 0 1 1 ∷ []) (carrier AB 1 0 1 1 0 0 zeros 2 1 1 ∷ []); maps = full ∷ [] }
+
+abbrev pub equalThere : Case
+equalThere = case [] (SlotMap AB full) 0 3
+
+-- one report, from NOT READ to OK
+abbrev pub reportedThere : List Report
+reportedThere = onName 6 AB 1 3 ∷ []

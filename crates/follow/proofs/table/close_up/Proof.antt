@@ -16,7 +16,8 @@ clear-up-to-requires : tie.Need-clear-up-to-requires
 clear-up-to-requires c κs =
     let u = c .before .before .before in
     let a = u .before .before .before .args in
-    let l = ap length (u .moved-up .ensures .1) ∙ length-table (length (a .m .now)) (closedUp (a .m .now) (a .o) (a .w) (a .e) (u .moved-up .result)) in
+    let m = a .m .now in
+    let l = ap length (u .moved-up .ensures .1) ∙ length-table (length m) (closedUp m (a .o) (a .w) (a .e) (u .moved-up .result)) in
     (u .moved-up .ensures .0 .1, (omega arith, omega arith))
 
 -- what is left is the bytes closed up, of the same length
