@@ -1,13 +1,14 @@
 -- A tool that holds a sound state is sound: after set-up, and after every input.
 use Prim.Native.Nat.{ℕ, _≤_}
 use native.Mathlib.Omega.{arith}
-use mathlib.Core.Path.{_≡_, refl, ap, _∙_}
+use mathlib.Core.Path.{_≡_, refl, ap, sym, _∙_}
 use mathlib.Core.Logic.{_≢_}
 use mathlib.Core.Bool.{Bool, true, false, cond, _&&_}
+use mathlib.Core.List.{[]}
 use lib.ListN.{length}
 use lib.Seq.{take-all}
 use lib.Dec.{eqb, leb}
-use borrow.Author.Tests.{leb-true, le-leb}
+use borrow.Author.Tests.{eqb-true, leb-true, le-leb}
 use Rattle.lists.specs.Lists.{every, between, sameList}
 use Rattle.lists.proofs.Bools.{and-l, and-r, and-i}
 use Rattle.lists.proofs.Tables.{take-fill, rest-fill}
@@ -20,7 +21,9 @@ use Rattle.rules.specs.declared.report.Outcome.{Outcome}
 use Rattle.rules.specs.State.{State, stateOf, inTool, noTool, start, setUp}
 use Rattle.rules.specs.Sound.{inRange, sound, zeroPort, zeroCarrier, unusedZero, soundTool}
 use Rattle.rules.specs.Seen.{Input}
+use Rattle.rules.specs.Reports.{listed, differences}
 use Rattle.rules.specs.Outcome.{refused, accepted, answerIn, stateAfter, outcomeIn, outcome}
+use Rattle.rules.specs.Run.{lineOf}
 use Rattle.rules.proofs.Holding.{tool-sound}
 use Rattle.rules.proofs.SoundParts.{facts}
 use Rattle.rules.proofs.Orderly.{bounded}
@@ -127,6 +130,21 @@ module _ (t : Tool) (i : Input) (h : soundTool t ≡ true) where
       go : (w : Bool) → eqb (answerIn (stateOf t) i) 0 ≡ w → stateOf (outcomeIf w .tool) ≡ stateAfter (stateOf t) i
       go true e = held-state (stateAfter (stateOf t) i) next-sound
       go false e = rw e
+
+  -- it answers and reports as the line of a run's table does
+  pub outcome-answer : outcome t i .answer ≡ lineOf (stateOf t) i .answer
+  outcome-answer = ap (λ (o : Outcome). o .answer) outcome-is ∙ go (eqb (answerIn (stateOf t) i) 0) refl
+    where
+      go : (w : Bool) → eqb (answerIn (stateOf t) i) 0 ≡ w → outcomeIf w .answer ≡ answerIn (stateOf t) i
+      go true e = sym (eqb-true _ 0 e)
+      go false e = refl
+
+  pub outcome-reports : outcome t i .reports ≡ listed (lineOf (stateOf t) i .reports)
+  outcome-reports = ap (λ (o : Outcome). o .reports) outcome-is ∙ go (eqb (answerIn (stateOf t) i) 0)
+    where
+      go : (w : Bool) → outcomeIf w .reports ≡ listed (cond w (differences (stateOf t) (stateAfter (stateOf t) i)) [])
+      go true = refl
+      go false = refl
 
   tool-after : soundTool (outcome t i .tool) ≡ true
   tool-after = rw outcome-is (go (eqb (answerIn (stateOf t) i) 0))
