@@ -39,7 +39,7 @@ def arguments():
     parser.add_argument("--definitions", type=int, default=55, metavar="N", help="at least N definition mutants (55)")
     parser.add_argument("--least", type=int, default=3, metavar="N", help="at least N of each crate (3)")
     parser.add_argument("--crate", help="this crate alone")
-    parser.add_argument("--theorems", action="store_true", help="definitions against theorems about them, without any code")
+    parser.add_argument("--theorems", action="store_true", help="definitions against theorems alone")
     parser.add_argument("--resume", action="store_true", help="keep what the log has")
     parser.add_argument("--jobs", type=int, default=1, metavar="N", help="workers, each with its own copy (1)")
     parser.add_argument("--limit", type=int, default=600, metavar="S", help="seconds for a check (600)")
@@ -123,7 +123,8 @@ class Run:
 
     def work(self, number):
         try:
-            scratch = Scratch(REPO, os.path.join(self.options.work, f"worker{number}"), self.options.limit, self.options.top)
+            folder = os.path.join(self.options.work, f"worker{number}")
+            scratch = Scratch(REPO, folder, self.options.limit, self.options.top)
             scratch.prepare(lambda words: print(f"as it is, {words}", flush=True))
             while True:
                 self.try_crate(scratch, *self.left.get_nowait())

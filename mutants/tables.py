@@ -5,8 +5,8 @@ import re
 
 from operators import KINDS
 
-THEOREMS = ["the promises", "the twelve rows", "the run through every row", "the reachable answers", "the pairs", "the effects",
-            "the clauses", "the edges", "the laws"]
+THEOREMS = ["the promises", "the twelve rows", "the run through every row", "the reachable answers", "the pairs",
+            "the effects", "the clauses", "the edges", "the laws"]
 CODE = "the code's proofs"
 # How a reason begins where a theorem is refused that still holds: its proof names the text that was changed.
 TEXT = "by its text:"

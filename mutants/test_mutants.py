@@ -119,7 +119,8 @@ class Theorems(unittest.TestCase):
     def test_a_file_without_its_code_has_its_structs(self):
         text = (
             "// A pod.\nghost use lib.Dec.{ltb};\nuse crate::choose::first;\nuse crate::name::Name;\n\n"
-            "pub struct Pod {\n    pub name: Name,\n}\n\nimpl Pod {\n    fn here(self) -> bool {\n        true\n    }\n}\n\n"
+            "pub struct Pod {\n    pub name: Name,\n}\n\n"
+            "impl Pod {\n    fn here(self) -> bool {\n        true\n    }\n}\n\n"
             "pub fn told(p: Pod) -> u8\n    ensures { λ r. ⌜ r ≤ 7 ⌝ }\n{\n    1\n}\n"
         )
         left = "// A pod.\nuse crate::name::Name;\n\npub struct Pod {\n    pub name: Name,\n}\n\n\n"

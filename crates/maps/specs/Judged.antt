@@ -8,7 +8,8 @@ use Rattle.rules.specs.declared.report.Report.{Report}
 use Rattle.rules.specs.Seen.{Input, inputOf, see}
 use Rattle.rules.specs.Run.{onName}
 use Rattle.rules.specs.Pairs.{port, carrier, state}
-use Rattle.rules.specs.Inputs.{CancelCarrierNotification, ProceedWithCarrier, LoadStart, LoadDone, IdRead, IdReadFailed, Open, SlotMap, zeros}
+use Rattle.rules.specs.Inputs.{CancelCarrierNotification, ProceedWithCarrier, LoadStart, LoadDone, IdRead, IdReadFailed, Open}
+use Rattle.rules.specs.Inputs.{SlotMap, zeros}
 use Rattle.maps.specs.State.{Mapped, start}
 use Rattle.maps.specs.Outcome.{answerIn, stateAfter}
 

@@ -4,8 +4,8 @@ use mathlib.Core.Bool.{true}
 use Rattle.lists.specs.Lists.{every, everyTwo, any, howMany, fill, sameList}
 use Rattle.records.specs.Names.{inBytes, sameName, headOr0, zeroEnded, holdsName}
 use Rattle.rules.specs.State.{portOf, inTool}
-use Rattle.rules.specs.Sound.{portInRange, spotInRange, statusInRange, carrierInRange, inRange, otherName, tieKept, tieHeld, tiesAgree}
-use Rattle.rules.specs.Sound.{placeAgrees, otherSpot, fewExpected, portAgrees, openAgrees, sound, zeroPort, zeroCarrier, unusedZero}
+use Rattle.rules.specs.Sound.{portInRange, spotInRange, statusInRange, carrierInRange, inRange, otherName, tieKept, tieHeld}
+use Rattle.rules.specs.Sound.{tiesAgree, placeAgrees, otherSpot, fewExpected, portAgrees, openAgrees, sound, zeroPort, zeroCarrier, unusedZero}
 use Rattle.rules.specs.Sound.{soundTool}
 use Rattle.rules.specs.Pairs.{differing}
 use Rattle.rules.specs.Clauses.{clauses, breaks, rangesBroken, agreementsBroken, onlyUnused, toolsKept, toolsBroken}

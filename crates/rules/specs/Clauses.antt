@@ -37,7 +37,8 @@ isStatus v = leb 1 v && leb v 4
 abbrev carrierRanges : State → List Bool
 carrierRanges s =
     every (λ c. holdsName (c .name)) (s .carriers) ∷ every (λ c. leb (c .place) 2) (s .carriers)
-    ∷ every (λ c. not (inBuffer c) || leb 1 (c .spot)) (s .carriers) ∷ every (λ c. not (inBuffer c) || leb (c .spot) (s .places)) (s .carriers)
+    ∷ every (λ c. not (inBuffer c) || leb 1 (c .spot)) (s .carriers)
+    ∷ every (λ c. not (inBuffer c) || leb (c .spot) (s .places)) (s .carriers)
     ∷ every (λ c. inBuffer c || eqb (c .spot) 0) (s .carriers) ∷ every (λ c. leb (c .port) (length (s .ports))) (s .carriers)
     ∷ every (λ c. leb (c .opened) 1) (s .carriers) ∷ every (λ c. leb (c .cancelled) 1) (s .carriers)
     ∷ every (λ c. leb (c .cameout) 1) (s .carriers) ∷ every (λ c. every isCode (c .map)) (s .carriers)
@@ -50,7 +51,8 @@ tieNamed s p = sameName (portOf s p .tie) noName || any (λ c. eqb (c .port) p) 
 
 -- 23: names differ; 24, 25: ties read alike from either side; 26: a carrier placed at a port is tied to it, 27: one in the buffer to none;
 -- 28: no two share a buffer place; 29: at most 16 are expected; 30: a port with a movement is BLOCKED; 31 to 33: one that is out of
--- service, READY TO LOAD or loading has no pod; 34: an open carrier is in the buffer or at a port; 35, 36: at a port, it is idle and BLOCKED
+-- service, READY TO LOAD or loading has no pod; 34: an open carrier is in the buffer or at a port; 35, 36: at a port, it is idle and
+-- BLOCKED
 abbrev agreements : State → List Bool
 agreements s =
     everyTwo (λ a b. not (sameName (a .name) (b .name))) (s .carriers)

@@ -16,8 +16,8 @@ use Rattle.rules.specs.Run.{run}
 use Rattle.rules.specs.Reachable.{smooth}
 use Rattle.rules.specs.Conditions.{asks}
 
--- A case is an input and the state that it meets: after a run from set-up (ports, places, the inputs before), all of it accepted, or, where no
--- run comes there, a sound state that is written out.
+-- A case is an input and the state that it meets: after a run from set-up (ports, places, the inputs before), all of it accepted, or,
+-- where no run comes there, a sound state that is written out.
 pub data Case : Type 0 where
   along : ℕ → ℕ → List Input → Input → Case
   standing : State → Input → Case
@@ -34,7 +34,8 @@ abbrev pub mayStand : Case → Bool
 mayStand (along P B before i) = eqb (setUp P B .answer) 0 && smooth (start P B) before
 mayStand (standing s i) = sound s
 
--- A pair: the row, the condition by its place among what the row asks, a case where it holds and one where it doesn't, each with its answer.
+-- A pair: the row, the condition by its place among what the row asks, a case where it holds and one where it doesn't, each with its
+-- answer.
 pub record Pair : Type 0 where
   pub row : ℕ
   pub condition : ℕ
