@@ -1,6 +1,6 @@
 -- What a call does to every byte: nothing where it refuses, and the same on the same bytes and input.
 use Prim.Native.Nat.{ℕ}
-use mathlib.Core.Path.{_≡_, refl, sym, _∙_}
+use mathlib.Core.Path.{_≡_, refl, ap, sym, _∙_}
 use mathlib.Core.Logic.{_≢_}
 use mathlib.Core.Bool.{Bool, true, false, cond}
 use mathlib.Core.List.{List}
@@ -13,8 +13,11 @@ use Rattle.image.proofs.Reported.{none-reported}
 use Rattle.maps.specs.State.{MappedTool, stateOf}
 use Rattle.maps.specs.Outcome.{Given, rowIn, answerIn, stateAfter, accepted, givenIn}
 use Rattle.maps.specs.Outcome as maps
-use Rattle.tool.specs.Whole.{Whole, wholeIn, soundWhole, refused, around, Outcome, outcome}
+use Rattle.tool.specs.Whole as tool
+use Rattle.tool.specs.Whole.{Whole, wholeIn, soundWhole, refused, around, Outcome}
 use Rattle.tool.proofs.Only.{first-bytes, second-bytes}
+use Rattle.door.specs.Door.{shown, outcome, padded, mayPad}
+use Rattle.door.proofs.Padded.{same-padded}
 use Rattle.hawsermole.specs.Calls.{SetUpCall, StepCall, SameBytes, SameTool}
 
 -- what isn't answered with 0 leaves the tool, and reports nothing
@@ -34,8 +37,8 @@ module _ (t : Whole) (i : Input) where
   abbrev Refuses : Outcome → Type 0
   Refuses o = o .answer ≢ 0 → (o .tool ≡ t) × (o .reports ≡ noReports)
 
-  refuses : Refuses (outcome t i)
-  unfolding outcome
+  refuses : Refuses (tool.outcome t i)
+  unfolding tool.outcome
   refuses = go (soundWhole t)
     where
       go : (w : Bool) → Refuses (cond w (around t (givenIn (t .mapped) i)) (refused t 1))
@@ -49,8 +52,9 @@ same-tool a b e = (first-bytes a b e, second-bytes a b e)
 pub refused-leaves : (before : List (List ℕ)) (i : Input) (r : ℕ) (after : List (List ℕ)) (reports : List ℕ)
     → StepCall before i r after reports → r ≢ 0
     → SameTool after before × SameBytes 141 reports (replicate 141 0)
+unfolding outcome
 refused-leaves before i r after reports s n =
-    let o = refuses (wholeIn before) i (λ z. n (s .answered ∙ z)) in
+    let o = refuses (wholeIn before) (shown i) (λ z. n (s .answered ∙ z)) in
     (same-tool after before (s .tool ∙ o .0), reported-byte reports (replicate 141 0) (s .told ∙ o .1 ∙ sym none-reported))
 
 -- Two calls that meet the same bytes with the same input give the same answer, and leave the same bytes and the same report list.
@@ -62,6 +66,18 @@ same-again before i r r′ after after′ reports reports′ s t = (
   same-tool after after′ (s .tool ∙ sym (t .tool)),
   reported-byte reports reports′ (s .told ∙ sym (t .told)),
 )
+
+-- And so where the name of one is padded, and the other's plain.
+pub padded-again : (before : List (List ℕ)) (i : Input) (n r r′ : ℕ) (after after′ : List (List ℕ)) (reports reports′ : List ℕ)
+    → mayPad n i ≡ true → StepCall before i r after reports → StepCall before (padded n i) r′ after′ reports′
+    → (r ≡ r′) × SameTool after after′ × SameBytes 141 reports reports′
+padded-again before i n r r′ after after′ reports reports′ m s t =
+    let p = same-padded (wholeIn before) i n m in
+    same-again before i r r′ after after′ reports reports′ s (record {
+      tool = t .tool ∙ ap (λ o. o .tool) p;
+      told = t .told ∙ ap (λ o. o .reports) p;
+      answered = t .answered ∙ ap (λ o. o .answer) p;
+    })
 
 -- And so for set-up, whatever bytes it met.
 pub set-up-again : (P B r r′ : ℕ) (after after′ : List (List ℕ)) → SetUpCall P B r after → SetUpCall P B r′ after′

@@ -20,9 +20,11 @@ use Rattle.maps.specs.Projection.{reached}
 use Rattle.maps.specs.History.{Event, events, history}
 use Rattle.maps.specs.Promise.{Earned}
 use Rattle.maps.proofs.Promised.{promised}
-use Rattle.tool.specs.Whole.{Whole, wholeIn, soundWhole, setUp, outcome, reachedWhole}
+use Rattle.tool.specs.Whole as tool
+use Rattle.tool.specs.Whole.{Whole, wholeIn, soundWhole, setUp, reachedWhole}
 use Rattle.tool.proofs.Tested.{when-sound}
 use Rattle.tool.proofs.Runs.{tool-sound, tool-holds}
+use Rattle.door.specs.Door.{shown, outcome}
 use Rattle.hawsermole.specs.Calls.{Call, Left, stateIn, eventOf, Kept}
 
 -- an accepted set-up is one of 1 to 4 ports and 0 to 16 places
@@ -50,11 +52,12 @@ given-answer t i = go (eqb (answerIn (stateOf t) i) 0) refl
     go true e = sym (eqb-true _ 0 e)
     go false e = refl
 
-answer-is : (t : Whole) (i : Input) → soundWhole t ≡ true → outcome t i .answer ≡ answerIn (stateOf (t .mapped)) i
+answer-is : (t : Whole) (i : Input) → soundWhole t ≡ true → tool.outcome t i .answer ≡ answerIn (stateOf (t .mapped)) i
 answer-is t i h = ap (λ o. o .answer) (sym (when-sound t i h)) ∙ given-answer (t .mapped) i
 
+-- as the rows saw them
 abbrev inputs : List Call → List Input
-inputs calls = map (λ c. c .input) calls
+inputs calls = map (λ c. shown (c .input)) calls
 
 module _ (P B : ℕ) where
   -- a run begins with a set-up that was accepted
@@ -66,9 +69,9 @@ module _ (P B : ℕ) where
   -- the bytes hold the tool that the definitions reach by the same inputs
   tool-is : (calls : List Call) (bytes : List (List ℕ)) → Left P B calls bytes
       → wholeIn bytes ≡ reachedWhole (setUp P B .tool) (inputs calls)
-  unfolding Left reachedWhole
+  unfolding Left reachedWhole outcome
   tool-is [] bytes l = l .tool
-  tool-is (c ∷ earlier) bytes l = l .1 .tool ∙ ap (λ t. outcome t (c .input) .tool) (tool-is earlier (c .before) (l .0))
+  tool-is (c ∷ earlier) bytes l = l .1 .tool ∙ ap (λ t. tool.outcome t (shown (c .input)) .tool) (tool-is earlier (c .before) (l .0))
 
   module _ (calls : List Call) (bytes : List (List ℕ)) (l : Left P B calls bytes) where
     sound-is : soundWhole (wholeIn bytes) ≡ true
@@ -79,10 +82,10 @@ module _ (P B : ℕ) where
 
   -- the answer that counts for a call is the definitions'
   answer-given : (c : Call) (earlier : List Call) (bytes : List (List ℕ)) → Left P B (c ∷ earlier) bytes
-      → eventOf c .answer ≡ answerIn (stateIn (c .before)) (c .input)
-  unfolding Left
+      → eventOf c .answer ≡ answerIn (stateIn (c .before)) (shown (c .input))
+  unfolding Left outcome
   answer-given c earlier bytes l =
-      l .1 .answered ∙ answer-is (wholeIn (c .before)) (c .input) (sound-is earlier (c .before) (l .0))
+      l .1 .answered ∙ answer-is (wholeIn (c .before)) (shown (c .input)) (sound-is earlier (c .before) (l .0))
 
   -- what happened in the calls is what happens by the definitions
   events-are : (calls : List Call) (bytes : List (List ℕ)) → Left P B calls bytes → map eventOf calls ≡ events (start P B) (inputs calls)
@@ -90,11 +93,11 @@ module _ (P B : ℕ) where
   events-are [] bytes l = refl
   events-are (c ∷ earlier) bytes l =
       ap (λ a. event (stateIn (c .before)) a ∷ map eventOf earlier) (answer-given c earlier bytes l)
-      ∙ ap (λ s. event s (answerIn s (c .input)) ∷ map eventOf earlier) (state-is earlier (c .before) (l .0))
-      ∙ ap (λ es. event now (answerIn now (c .input)) ∷ es) (events-are earlier (c .before) (l .0))
+      ∙ ap (λ s. event s (answerIn s (shown (c .input))) ∷ map eventOf earlier) (state-is earlier (c .before) (l .0))
+      ∙ ap (λ es. event now (answerIn now (shown (c .input))) ∷ es) (events-are earlier (c .before) (l .0))
     where
       event : Mapped → ℕ → Event
-      event s a = record { before = s; input = c .input; answer = a }
+      event s a = record { before = s; input = shown (c .input); answer = a }
 
       now : Mapped
       now = reached (start P B) (inputs earlier)

@@ -11,7 +11,8 @@ use Rattle.image.specs.Image.{byteAt, reportsFrom}
 use Rattle.maps.specs.State.{Mapped, stateOf}
 use Rattle.maps.specs.History.{Event, history}
 use Rattle.maps.specs.Promise.{Earned}
-use Rattle.tool.specs.Whole.{wholeIn, soundWhole, setUp, outcome}
+use Rattle.tool.specs.Whole.{wholeIn, soundWhole, setUp}
+use Rattle.door.specs.Door.{shown, outcome}
 
 -- What hm_setup ensures: the bytes that it leaves hold the tool that set-up gives, and it gives set-up's answer.
 pub record SetUpCall (ports places answer : ℕ) (after : List (List ℕ)) : Type 0 where
@@ -41,9 +42,9 @@ Left P B (c ∷ earlier) bytes = Left P B earlier (c .before) × StepCall (c .be
 abbrev pub stateIn : List (List ℕ) → Mapped
 stateIn bytes = stateOf (wholeIn bytes .mapped)
 
--- What happened in a call: the answer is the one that the call gave.
+-- What happened in a call: the name is the shortened one, the answer the one that the call gave.
 abbrev pub eventOf : Call → Event
-eventOf c = record { before = stateIn (c .before); input = c .input; answer = c .answer }
+eventOf c = record { before = stateIn (c .before); input = shown (c .input); answer = c .answer }
 
 -- The promise, of a run of calls and the bytes that it left: they hold a sound tool, its names, ties and places are in order,
 -- and each of its carriers has behind it what the calls' own answers show.

@@ -3,11 +3,13 @@
 ghost use mathlib.Core.Path.{_≡_};
 ghost use mathlib.Core.Bool.{cond};
 ghost use Rattle.rules.specs.Seen.{inputOf};
+ghost use Rattle.names.specs.Check.{nameLength};
 ghost use Rattle.tool.specs.Whole.{wholeIn, soundWhole};
 ghost use Rattle.hawsermole.specs.Calls.{SetUpCall, StepCall};
+use door::door::door_step;
+use names::check::name_length;
 use tool::whole::whole_setup;
 use tool::whole::whole_sound;
-use tool::whole::whole_step;
 
 #[no_mangle]
 pub extern "C" fn hm_tool_size() -> u32
@@ -39,6 +41,13 @@ pub extern "C" fn hm_sound(tool: &[[u8; 1891]; 2]) -> u32
 }
 
 #[no_mangle]
+pub extern "C" fn hm_name(text: &[u8]) -> u32
+    ensures { λ r. ⌜ r ≡ nameLength (now (text .entry)) ⌝ }
+{
+    name_length(text) as u32
+}
+
+#[no_mangle]
 pub extern "C" fn hm_step(
     tool: &mut [[u8; 1891]; 2],
     reports: &mut [u8; 141],
@@ -51,6 +60,6 @@ pub extern "C" fn hm_step(
     ensures { λ r. ⌜ StepCall (now (tool .entry)) (inputOf number port value (now (name .entry)) (now (codes .entry)))
         r (now (tool .exit)) (now (reports .exit)) ⌝ }
 {
-    let answer = whole_step(tool, reports, number, port, value, name, codes);
+    let answer = door_step(tool, reports, number, port, value, name, codes);
     answer as u32
 }

@@ -9,3 +9,4 @@ pub mod Retold
 pub mod Happened
 pub mod Promised
 pub mod Judged
+pub mod Named

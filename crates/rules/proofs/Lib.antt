@@ -43,3 +43,4 @@ pub mod LawfulInside
 pub mod LawfulPods
 pub mod LawfulRows
 pub mod Granted
+pub mod Named

@@ -2,6 +2,7 @@ pub mod State
 pub mod Sound
 pub mod Held
 pub mod Seen
+pub mod Named
 pub mod Row
 pub mod Booking
 pub mod Verdict

@@ -1,0 +1,30 @@
+// An input from outside: its name is shortened, and the whole tool answers.
+ghost use mathlib.Core.Path.{_≡_};
+ghost use Rattle.rules.specs.Seen.{inputOf};
+ghost use Rattle.image.specs.Image.{reportsFrom};
+ghost use Rattle.tool.specs.Whole.{wholeIn};
+ghost use Rattle.door.specs.Door.{outcome};
+use image::layout::*;
+use mapped::layout::*;
+use names::check::shortened_length;
+use tool::whole::whole_step;
+
+pub fn door_step(
+    m: &mut [[u8; TOOL_BYTES]; BLOCKS],
+    o: &mut [u8; REPORTS_BYTES],
+    number: u32,
+    port: u32,
+    value: u32,
+    name: &[u8],
+    codes: &[u8],
+) -> u8
+    ensures { λ r. ⌜ wholeIn (now (m .exit)) ≡ outcome (wholeIn (now (m .entry)))
+        (inputOf number port value (now (name .entry)) (now (codes .entry))) .tool ⌝ }
+    ensures { λ r. ⌜ reportsFrom (now (o .exit)) ≡ outcome (wholeIn (now (m .entry)))
+        (inputOf number port value (now (name .entry)) (now (codes .entry))) .reports ⌝ }
+    ensures { λ r. ⌜ r ≡ outcome (wholeIn (now (m .entry)))
+        (inputOf number port value (now (name .entry)) (now (codes .entry))) .answer ⌝ }
+{
+    let n = shortened_length(name);
+    whole_step(m, o, number, port, value, &name[..n], codes)
+}

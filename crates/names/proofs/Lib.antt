@@ -1,0 +1,3 @@
+pub mod Remains
+pub mod Given
+pub mod Lengths
