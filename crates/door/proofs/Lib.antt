@@ -1,1 +1,3 @@
 pub mod Padded
+pub mod Stored
+pub mod Cases

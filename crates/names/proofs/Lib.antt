@@ -1,3 +1,4 @@
 pub mod Remains
 pub mod Given
 pub mod Lengths
+pub mod Texts

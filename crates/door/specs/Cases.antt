@@ -1,0 +1,61 @@
+-- Runs through the door: the shortened name is the one in record and comparison; only a length of zero is missing; a row that takes no
+-- name ignores it.
+use Prim.Native.Nat.{ℕ}
+use mathlib.Core.Bool.{Bool, _&&_}
+use mathlib.Core.List.{List, [], _∷_, _++_, map}
+use lib.ListN.{replicate}
+use lib.Dec.{eqb}
+use Rattle.rules.specs.Seen.{Input, inputOf}
+use Rattle.rules.specs.Inputs.{Bind, CancelBind, CarrierNotification, CancelCarrierNotification, LoadStart, LoadDone, IdRead, Open}
+use Rattle.maps.specs.State.{start}
+use Rattle.maps.specs.Outcome.{answerIn}
+use Rattle.maps.specs.Judged.{smooth, after}
+use Rattle.door.specs.Door.{shown}
+
+-- A run of inputs that are accepted, and one more with its answer.
+pub record Case : Type 0 where
+  pub before : List Input
+  pub input : Input
+  pub answer : ℕ
+
+abbrev case : List Input → Input → ℕ → Case
+case before input answer = record { before = before; input = input; answer = answer }
+
+-- one port, no buffer
+unfoldable pub holds : Case → Bool
+holds c = smooth (start 1 0) (map shown (c .before))
+    && eqb (answerIn (after (start 1 0) (map shown (c .before))) (shown (c .input))) (c .answer)
+
+abbrev AB : List ℕ
+AB = 0x41 ∷ 0x42 ∷ []
+
+abbrev blanks : ℕ → List ℕ
+blanks n = replicate n 0x20
+
+-- a pod comes to port 1, and its tag is read
+abbrev arrives : List ℕ → List Input
+arrives name = LoadStart 1 ∷ LoadDone 1 ∷ IdRead 1 name ∷ []
+
+abbrev pub cases : List Case
+cases =
+    -- padded in the record, plain in the comparison, and the other way round
+    case (CarrierNotification (AB ++ blanks 2) ∷ []) (CarrierNotification AB) 3
+    ∷ case (CarrierNotification AB ∷ []) (CarrierNotification (AB ++ blanks 2)) 3
+    ∷ case (CarrierNotification (AB ++ blanks 30) ∷ []) (CancelCarrierNotification AB) 0
+    ∷ case (CarrierNotification AB ∷ []) (CancelCarrierNotification (AB ++ blanks 31)) 1
+    ∷ case (CarrierNotification AB ∷ []) (CancelCarrierNotification (blanks 1 ++ AB)) 1
+    -- a tag reader that pads verifies the carrier that was announced
+    ∷ case (Bind 1 AB ∷ arrives (AB ++ blanks 14)) (Open AB) 0
+    ∷ case (Bind 1 AB ∷ arrives (AB ++ blanks 14)) (Open (AB ++ blanks 1)) 0
+    ∷ case (Bind 1 AB ∷ arrives (0x41 ∷ 0x43 ∷ blanks 14)) (Open (0x41 ∷ 0x43 ∷ [])) 7
+    -- only a length of zero means missing
+    ∷ case (Bind 1 AB ∷ []) (CancelBind 1 []) 0
+    ∷ case (Bind 1 AB ∷ []) (CancelBind 1 (blanks 1)) 1
+    ∷ case (Bind 1 AB ∷ []) (CancelBind 1 (blanks 33)) 1
+    ∷ case (Bind 1 AB ∷ []) (CancelBind 1 (AB ++ blanks 1)) 0
+    ∷ case [] (CarrierNotification []) 1
+    ∷ case [] (CarrierNotification (blanks 4)) 1
+    -- a row that takes no name ignores it, however bad
+    ∷ case [] (inputOf 13 1 0 (blanks 1 ++ AB) []) 0
+    ∷ case [] (inputOf 13 1 0 (replicate 40 0) []) 0
+    ∷ []
