@@ -8,7 +8,6 @@ use lib.Dec.{eqb, leb}
 use borrow.Author.Tests.{eqb-true, leb-true, ne-eqb}
 use Rattle.lists.specs.Lists.{any}
 use Rattle.lists.proofs.Bools.{and-l, and-r}
-use Rattle.records.specs.declared.name.Name.{Name}
 use Rattle.records.specs.Names.{graphic, headOr0, zeroEnded, holdsName}
 use Rattle.rules.specs.State.{recordOf}
 use Rattle.rules.specs.Promise.{Live}
