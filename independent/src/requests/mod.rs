@@ -2,11 +2,13 @@
 //!
 //! An input goes through the requests first, which may refuse it, then to document 01's row, then
 //! through the requests again, which may change what the row did. The reports are the differences
-//! between the state before all of this and the state after it. So far there is one request:
+//! between the state before all of this and the state after it. So far these have come:
 //!
 //! - P1, slot maps the tool can judge: `maps`.
+//! - P4, names padded with blanks: [`names`].
 
 mod maps;
+pub mod names;
 
 use crate::report::Touched;
 use crate::rows::{answered, row, Outcome, Refusal};
@@ -102,8 +104,9 @@ struct Given<'a> {
 #[inline]
 fn amended(t: &mut Tool, given: &Given) -> Outcome {
     let map = maps::given(given)?;
+    let name = names::given(given)?;
 
-    let touched = row(&mut t.base, given.number, given.port, given.value, given.name, given.codes)?;
+    let touched = row(&mut t.base, given.number, given.port, given.value, name, given.codes)?;
     move_with_records(t, &touched);
     maps::keep(t, &touched, map);
     maps::judge(t, &touched, given);

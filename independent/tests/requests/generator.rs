@@ -4,8 +4,11 @@ use std::collections::HashMap;
 
 use independent::gen::requests::{random_run_input, random_sound_tool};
 use independent::gen::{padded, Input, Rng};
+use independent::requests::names::{read, NoName};
 use independent::requests::{setup, step, Tool};
 use independent::Reports;
+
+use crate::plain::{plain_name, NAMED};
 
 /// What the codes of rows 1 and 3 are.
 fn carried(codes: &[u8]) -> &'static str {
@@ -19,8 +22,8 @@ fn carried(codes: &[u8]) -> &'static str {
 
 /// What the codes of row 20 are to the map that the carrier's record keeps.
 fn compared(t: &Tool, i: &Input) -> &'static str {
-    let named = |c: &independent::Carrier| (1..=16).contains(&i.name.len()) && c.name == padded(&i.name);
-    let Some(k) = t.base.carriers().iter().position(named) else { return "no record" };
+    let name = plain_name(&i.name).map(|name| padded(&name));
+    let Some(k) = t.base.carriers().iter().position(|c| Some(c.name) == name) else { return "no record" };
     let codes = &i.codes[..];
     if codes.len() != 25 || codes.iter().any(|&code| code > 5) {
         return "bad slot map";
@@ -35,14 +38,73 @@ fn compared(t: &Tool, i: &Input) -> &'static str {
     }
 }
 
+/// What the text is that stands for a name.
+fn padding(text: &[u8]) -> &'static str {
+    let name = match read(text) {
+        Err(NoName::TooLong) if text.len() == 33 => return "33 bytes",
+        Err(NoName::TooLong) => return "more than 33",
+        Err(NoName::BlankElsewhere) => return "blank elsewhere",
+        Err(NoName::NothingLeft) if text.is_empty() => return "length zero",
+        Err(NoName::NothingLeft) => return "blanks alone",
+        Err(NoName::TooMuchLeft) if text.trim_ascii_end().len() == 17 && text.len() > 17 => {
+            return "17 left, padded"
+        }
+        Err(NoName::TooMuchLeft) => return "too much left",
+        Err(NoName::OtherByte) if text.contains(&0) => return "NUL",
+        Err(NoName::OtherByte) => return "other byte",
+        Ok(name) => name,
+    };
+    match (name.len(), text.len()) {
+        (left, all) if left == all => "plain",
+        (_, 32) => "padded to 32",
+        (16, _) => "16 left, padded",
+        _ => "padded",
+    }
+}
+
+/// What there is to the name of a row: one that takes a name, one that may miss it, one that takes none.
+fn name_kind(i: &Input) -> &'static str {
+    match (i.number, padding(&i.name)) {
+        (2, "length zero") => "row 2, missing",
+        (2, "blanks alone") => "row 2, blanks alone",
+        (2, "padded") => "row 2, padded",
+        (number, kind) if NAMED.contains(&number) => kind,
+        (_, "plain" | "length zero") => "not looked at, good",
+        _ => "not looked at, bad",
+    }
+}
+
 fn note(met: &mut HashMap<(&str, &str), u32>, from: &'static str, t: &Tool, i: &Input) {
-    let kind = match i.number {
+    let codes = match i.number {
         1 | 3 => carried(&i.codes),
         20 => compared(t, i),
-        _ => return,
+        _ => "codes not looked at",
     };
-    *met.entry((from, kind)).or_default() += 1;
+    for kind in [codes, name_kind(i)] {
+        *met.entry((from, kind)).or_default() += 1;
+    }
 }
+
+const NAMES: [&str; 18] = [
+    "33 bytes",
+    "more than 33",
+    "blank elsewhere",
+    "length zero",
+    "blanks alone",
+    "17 left, padded",
+    "too much left",
+    "NUL",
+    "other byte",
+    "plain",
+    "padded to 32",
+    "16 left, padded",
+    "padded",
+    "row 2, missing",
+    "row 2, blanks alone",
+    "row 2, padded",
+    "not looked at, good",
+    "not looked at, bad",
+];
 
 #[test]
 fn every_kind_is_drawn() {
@@ -66,7 +128,7 @@ fn every_kind_is_drawn() {
     let rows_1_and_3 = ["no map", "good map", "bad codes", "bad length"];
     let row_20 = ["equal", "one differs", "many differ", "zeros, none kept", "none kept", "bad slot map"];
     for from in ["run", "state"] {
-        for kind in rows_1_and_3.into_iter().chain(row_20) {
+        for kind in rows_1_and_3.into_iter().chain(row_20).chain(NAMES) {
             assert!(met.get(&(from, kind)).is_some_and(|&n| n > 20), "{from}: {kind}");
         }
     }

@@ -5,6 +5,7 @@ mod common;
 mod generator;
 mod judged_maps;
 mod kept_maps;
+mod names;
 mod plain;
 mod runs;
 mod soundness;

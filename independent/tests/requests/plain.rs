@@ -28,9 +28,32 @@ fn map_of(t: &Tool, name: [u8; 16]) -> Option<Vec<u8>> {
     Some(if t.maps[i][0] == 0 { Vec::new() } else { t.maps[i].to_vec() })
 }
 
+/// The rows that have a name among their parts.
+pub const NAMED: [u32; 14] = [1, 2, 3, 4, 5, 6, 7, 8, 16, 19, 20, 21, 22, 23];
+
+/// The name in a text: blanks at the end go one by one.
+pub fn plain_name(text: &[u8]) -> Option<Vec<u8>> {
+    let mut name = text.to_vec();
+    while name.ends_with(b" ") {
+        name.pop();
+    }
+    let refused = text.len() > 32 || name.contains(&b' ') || name.is_empty() || name.len() > 16;
+    (!refused && name.iter().all(u8::is_ascii_graphic)).then_some(name)
+}
+
+/// The input with its name shortened, where the row takes one and it isn't missing; `None` where
+/// the name is refused.
+fn shortened(i: &Input) -> Option<Input> {
+    if !NAMED.contains(&i.number) || i.number == 2 && i.name.is_empty() {
+        return Some(i.clone());
+    }
+    plain_name(&i.name).map(|name| Input { name, ..i.clone() })
+}
+
 /// What an input gives from a sound state: document 01's answer and state, but for the words of the
 /// requests.
 pub fn plain_step(before: &Tool, i: &Input) -> (u32, Tool, Reports) {
+    let Some(i) = shortened(i) else { return (1, *before, Reports::NONE) };
     let carries_map = i.number == 1 || i.number == 3;
     let good = i.codes.is_empty() || i.codes.len() == 25 && i.codes.iter().all(|code| [1, 3].contains(code));
     if carries_map && !good {

@@ -8,7 +8,7 @@ use independent::requests::{setup, sound, step, step_known_sound, Tool};
 use independent::{Report, Reports};
 
 use crate::common::ALLOWED;
-use crate::plain::{plain_step, plainly_sound, same};
+use crate::plain::{plain_name, plain_step, plainly_sound, same};
 
 /// How often each answer to each row was met, and how often a slot map was OK at once or was asked
 /// about although a map was expected.
@@ -71,7 +71,7 @@ impl History {
                 ..Shown::default()
             });
         }
-        let named = (1..=16).contains(&i.name.len()).then(|| independent::gen::padded(&i.name));
+        let named = plain_name(&i.name).map(|name| independent::gen::padded(&name));
         let Some(shown) = named.and_then(|name| self.0.get_mut(&name)) else { return };
         match i.number {
             20 => (shown.equal, shown.proceeded) = (shown.map == i.codes, false),

@@ -1,16 +1,20 @@
 //! Inputs and states for the tool with requests: document 01's, and what each request adds.
 
 mod maps;
+mod names;
 
 use std::string::String;
 
 use super::{Input, Rng};
 use crate::requests::{Tool, UNUSED};
 
+pub use names::random_text;
+
 /// An input for this state, as a run might meet it.
 pub fn random_run_input(t: &Tool, rng: &mut Rng) -> Input {
     let mut input = super::random_run_input(&t.base, rng);
     maps::complete(t, &mut input, rng);
+    names::complete(&mut input, rng);
     input
 }
 
