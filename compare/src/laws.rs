@@ -20,7 +20,36 @@ pub fn unlawful(before: &Tool, input: &Input, o: &Outcome) -> Option<String> {
     if !o.accepted() && (o.reports.count != 0 || o.tool.bytes() != before.bytes()) {
         return Some("a refusal changes no state and leaves no report".into());
     }
-    badly_carried(input, o).or_else(|| badly_judged(before, input, o))
+    badly_named(input, o).or_else(|| badly_carried(input, o)).or_else(|| badly_judged(before, input, o))
+}
+
+/// The rows that take a name.
+const NAMED: [u32; 14] = [1, 2, 3, 4, 5, 6, 7, 8, 16, 19, 20, 21, 22, 23];
+
+/// P4: the bytes before the blanks at the end of a text.
+pub fn shortened(mut text: &[u8]) -> &[u8] {
+    while let [front @ .., b' '] = text {
+        text = front;
+    }
+    text
+}
+
+/// P4: at most 32 bytes, and 1 to 16 of 0x21 to 0x7E before the blanks at the end.
+pub fn has_name(text: &[u8]) -> bool {
+    let name = shortened(text);
+    text.len() <= 32 && (1..=16).contains(&name.len()) && name.iter().all(u8::is_ascii_graphic)
+}
+
+/// P4: the row takes a name, and it has blanks at its end.
+pub fn padded(input: &Input) -> bool {
+    NAMED.contains(&input.number) && input.name.ends_with(b" ")
+}
+
+/// P4: a text without a name is answered 1 in a row that takes one; row 2's may be missing, which is length zero.
+fn badly_named(input: &Input, o: &Outcome) -> Option<String> {
+    let missing = input.number == 2 && input.name.is_empty();
+    let bad = NAMED.contains(&input.number) && !missing && !has_name(&input.name);
+    (bad && o.answer != 1).then(|| "a text that has no name in it is answered 1".into())
 }
 
 /// P1: a map that rows 1 and 3 carry has 25 codes of 1 and 3, or none.
@@ -36,9 +65,10 @@ fn badly_judged(before: &Tool, input: &Input, o: &Outcome) -> Option<String> {
     if input.number != 20 || !o.accepted() {
         return None;
     }
-    let at = before.base.carrier.iter().position(|c| unpadded(&c.name) == input.name)?;
+    let name = shortened(&input.name);
+    let at = before.base.carrier.iter().position(|c| unpadded(&c.name) == name)?;
     let equal = before.expected_map(at).is_some_and(|map| map[..] == input.codes);
     let status = if equal { 3 } else { 2 };
-    let reports = format!("6 {} 1>{status}", String::from_utf8_lossy(&input.name));
+    let reports = format!("6 {} 1>{status}", String::from_utf8_lossy(name));
     (tabled(&o.reports) != reports).then(|| format!("the slot map is judged by the one expected: {reports}"))
 }

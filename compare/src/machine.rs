@@ -9,6 +9,8 @@ pub trait Machine {
     fn setup(&self, ports: u32, places: u32, tool: &mut Tool) -> u32;
     fn step(&self, tool: &mut Tool, input: &Input, reports: &mut Reports) -> u32;
     fn sound(&self, tool: &Tool) -> u32;
+    /// How many bytes of a text are its name; 0 where there is none.
+    fn name(&self, text: &[u8]) -> u32;
 }
 
 /// The proved machine, as the archive holds it.
@@ -37,6 +39,10 @@ impl Machine for Proved {
         // SAFETY: the sizes agree.
         unsafe { raw::hm_sound(tool.bytes().try_into().expect("a tool's bytes")) }
     }
+
+    fn name(&self, text: &[u8]) -> u32 {
+        raw::name(text)
+    }
 }
 
 /// The bytes of a struct, to be written in place.
@@ -58,6 +64,10 @@ impl Machine for Independent {
 
     fn sound(&self, tool: &Tool) -> u32 {
         requests::sound(tool) as u32
+    }
+
+    fn name(&self, text: &[u8]) -> u32 {
+        requests::names::name_of(text).map_or(0, |name| name.len() as u32)
     }
 }
 
@@ -119,5 +129,10 @@ impl Both<'_> {
     pub fn sound(&self, tool: &Tool) -> Option<bool> {
         let yes = self.proved.sound(tool);
         (yes == self.independent.sound(tool)).then_some(yes == 1)
+    }
+
+    pub fn name(&self, text: &[u8]) -> Option<u32> {
+        let length = self.proved.name(text);
+        (length == self.independent.name(text)).then_some(length)
     }
 }

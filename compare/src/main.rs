@@ -21,7 +21,8 @@ use independent::gen::Rng;
 use machine::{Both, Independent, Proved};
 use pairs::{allowed, Pairs};
 use parts::damaged::Damage;
-use parts::{damaged, edges, maps, odd, runs, setups, states, twelve};
+use parts::names::Texts;
+use parts::{damaged, edges, maps, names, odd, runs, setups, states, twelve};
 use play::{Finding, Tally};
 
 const SEED: u64 = 20_870_312;
@@ -62,13 +63,17 @@ struct Table {
     runs_accepted: f64,
     /// Slot maps that were OK at once, along the runs and from states.
     at_once: [u64; 2],
+    /// Accepted inputs whose name was padded, along the runs and from states.
+    padded: [u64; 2],
+    texts: Texts,
 }
 
 impl Table {
     fn line(&mut self, part: &str, tally: &Tally) {
         self.inputs += tally.inputs;
         let (inputs, accepted, pairs) = (tally.inputs, tally.percent(), tally.pairs.met());
-        println!("{part:<44}{inputs:>10}{accepted:>9.1} %{pairs:>7}{:>10}", tally.at_once);
+        let (at_once, padded) = (tally.at_once, tally.padded);
+        println!("{part:<44}{inputs:>10}{accepted:>9.1} %{pairs:>7}{at_once:>10}{padded:>10}");
     }
 
     fn damage(&mut self, part: &str, damage: &Damage) {
@@ -76,7 +81,7 @@ impl Table {
     }
 
     /// The last lines; a failure where the runs left a pair out or accepted little, or where no slot map was OK at
-    /// once.
+    /// once or no padded name accepted.
     fn end(&self) -> ExitCode {
         let missing = self.along_runs.missing();
         if !missing.is_empty() {
@@ -89,11 +94,19 @@ impl Table {
         if self.at_once.contains(&0) {
             println!("NO SLOT MAP was OK at once along the runs, or none from states");
         }
+        if self.padded.contains(&0) {
+            println!("NO PADDED NAME was accepted along the runs, or none from states");
+        }
         let [runs, states] = self.at_once;
         println!("{runs} slot maps were OK at once along the runs, {states} from random sound states");
+        let [runs, states] = self.padded;
+        println!("{runs} padded names were accepted along the runs, {states} from random sound states");
+        let Texts { compared, names } = self.texts;
+        println!("{compared} texts were given to the name check alone, {names} of them have a name");
         let (met, all, inputs) = (self.along_runs.met(), allowed(), self.inputs);
         println!("{met} of {all} pairs of row and answer met along the runs; {inputs} inputs compared, no difference");
-        if missing.is_empty() && self.runs_accepted >= LEAST_ACCEPTED && !self.at_once.contains(&0) {
+        let shown = !self.at_once.contains(&0) && !self.padded.contains(&0);
+        if missing.is_empty() && self.runs_accepted >= LEAST_ACCEPTED && shown {
             ExitCode::SUCCESS
         } else {
             ExitCode::FAILURE
@@ -104,10 +117,15 @@ impl Table {
 fn compare(both: &Both, total: u64) -> Result<Table, Finding> {
     let mut table = Table::default();
     let mut rng = Rng::new(SEED);
-    println!("{:<44}{:>10}{:>11}{:>7}{:>10}", "part", "inputs", "accepted", "pairs", "at once");
+    println!(
+        "{:<44}{:>10}{:>11}{:>7}{:>10}{:>10}",
+        "part", "inputs", "accepted", "pairs", "at once", "padded"
+    );
     table.line("the twelve rows", &twelve::compare(both)?);
     table.line("document 01's edges", &edges::compare(both)?);
     table.line("slot maps the tool can judge", &maps::compare(both)?);
+    table.line("names padded with blanks", &names::compare(both)?);
+    table.texts = names::texts(both, total, &mut rng)?;
     table.line("set-ups in and out of range", &setups::compare(both, &mut rng)?);
     let along_runs = runs::compare(both, total, &mut rng)?;
     table.line("random runs, every P and B", &along_runs);
@@ -115,6 +133,7 @@ fn compare(both: &Both, total: u64) -> Result<Table, Finding> {
     let from_states = states::compare(both, total, &mut rng)?;
     table.line("inputs from random sound states", &from_states);
     table.at_once = [along_runs.at_once, from_states.at_once];
+    table.padded = [along_runs.padded, from_states.padded];
     table.damage("every byte damaged", &damaged::every_byte(both, total, &mut rng)?);
     table.damage("parts mixed up", &damaged::mixed_up(both, total / 4, &mut rng)?);
     table.damage("random bytes", &damaged::random_bytes(both, total / 8, &mut rng)?);

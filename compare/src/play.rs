@@ -3,7 +3,7 @@
 use independent::gen::Input;
 use independent::requests::Tool;
 
-use crate::laws::unlawful;
+use crate::laws::{padded, unlawful};
 use crate::machine::{Both, Outcome};
 use crate::pairs::Pairs;
 use crate::script::{tabled, Run};
@@ -17,20 +17,25 @@ pub enum Finding {
     State(Box<Tool>, Input),
     /// One program calls the state sound and the other doesn't.
     Sound(Box<Tool>),
+    /// The programs don't find the same name in a text.
+    Name(Vec<u8>),
     /// The programs agree, and the documents say otherwise.
     Document(Run, String),
     /// As `Document`, from a state that no run need reach.
     Law(Box<Tool>, Input, String),
+    /// As `Document`, of the name in a text.
+    NameLaw(Vec<u8>, String),
 }
 
-/// How many inputs were compared, how many of them were accepted, which pairs were met, and how many slot maps
-/// were OK at once.
+/// How many inputs were compared, how many of them were accepted, which pairs were met, how many slot maps
+/// were OK at once, and how many accepted inputs had a name with blanks at its end.
 #[derive(Clone, Copy, Default)]
 pub struct Tally {
     pub inputs: u64,
     pub accepted: u64,
     pub pairs: Pairs,
     pub at_once: u64,
+    pub padded: u64,
 }
 
 impl Tally {
@@ -39,6 +44,7 @@ impl Tally {
         self.accepted += o.accepted() as u64;
         self.pairs.meet(input.number, o.answer);
         self.at_once += ok_at_once(input, o) as u64;
+        self.padded += (o.accepted() && padded(input)) as u64;
     }
 
     pub fn percent(&self) -> f64 {

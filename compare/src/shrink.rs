@@ -4,7 +4,7 @@ use independent::gen::Input;
 use independent::requests::Tool;
 use independent::Carrier;
 
-use crate::laws::unlawful;
+use crate::laws::{shortened, unlawful};
 use crate::machine::{Both, Outcome};
 use crate::script::Run;
 
@@ -113,7 +113,7 @@ fn shrink_setup(both: &Both, best: &mut Run) {
     }
 }
 
-/// A port by a lower number, and names by A, B and so on as they come, in all inputs at once.
+/// A port by a lower number, and names by A, B and so on as they come, in all inputs at once. Blanks stay behind them.
 fn rename(both: &Both, best: &mut Run) {
     for from in 2..=4 {
         for to in 1..from {
@@ -124,16 +124,18 @@ fn rename(both: &Both, best: &mut Run) {
             }
         }
     }
-    let mut names: Vec<Vec<u8>> = Vec::new();
-    for input in best.inputs.iter().filter(|input| !input.name.is_empty()) {
-        if !names.contains(&input.name) {
-            names.push(input.name.clone());
+    let mut names: Vec<&[u8]> = Vec::new();
+    for name in best.inputs.iter().map(|input| shortened(&input.name)).filter(|name| !name.is_empty()) {
+        if !names.contains(&name) {
+            names.push(name);
         }
     }
     let mut candidate = best.clone();
     for input in &mut candidate.inputs {
-        if let Some(at) = names.iter().position(|name| *name == input.name) {
-            input.name = vec![b'A' + at as u8 % 26];
+        let name = shortened(&input.name);
+        if let Some(at) = names.iter().position(|known| *known == name) {
+            let length = name.len();
+            input.name.splice(..length, [b'A' + at as u8 % 26]);
         }
     }
     take(both, best, candidate);
@@ -168,7 +170,9 @@ fn plainer(input: &Input) -> Vec<Input> {
         with(port, value, name, &vec![1; codes.len()]),
         with(port, value, &[], codes),
         with(port, value, b"A", codes),
+        with(port, value, shortened(name), codes),
         with(port, value, &name[..name.len() / 2], codes),
+        with(port, value, &name[..name.len().saturating_sub(1)], codes),
         with(0, value, name, codes),
         with(1, value, name, codes),
         with(port, 0, name, codes),
@@ -232,6 +236,25 @@ pub fn smallest(tool: &Tool, differs: impl Fn(&Tool) -> bool) -> Tool {
         candidate.maps[i] = [0; 25];
         if differs(&candidate) {
             best = candidate;
+        }
+    }
+    best
+}
+
+/// A text without the bytes that can be left out, and with an A for each that can be one.
+pub fn shortest_text(text: &[u8], differs: impl Fn(&[u8]) -> bool) -> Vec<u8> {
+    let mut best = text.to_vec();
+    for at in (0..best.len()).rev() {
+        let mut candidate = best.clone();
+        candidate.remove(at);
+        if differs(&candidate) {
+            best = candidate;
+        }
+    }
+    for at in 0..best.len() {
+        let was = std::mem::replace(&mut best[at], b'A');
+        if !differs(&best) {
+            best[at] = was;
         }
     }
     best

@@ -8,19 +8,23 @@ use independent::Plain;
 
 use crate::machine::{outcome, set_up, Both, Outcome};
 use crate::play::Finding;
-use crate::script::{bytes, field, line, printed, Run};
-use crate::shrink::{plainest, shortest, smallest};
+use crate::script::{bytes, field, hex, line, printed, Run};
+use crate::shrink::{plainest, shortest, shortest_text, smallest};
 
 pub fn tell(both: &Both, finding: &Finding) -> String {
     match finding {
         Finding::Run(run) => tell_run(both, &shortest(both, run)),
         Finding::State(tool, input) => tell_state(both, tool, input),
         Finding::Sound(tool) => tell_sound(both, tool),
+        Finding::Name(text) => tell_name(both, text),
         Finding::Document(run, why) => {
             format!("BOTH ARE AGAINST THE DOCUMENTS: {why}. The script:\n{}", shortest(both, run).script())
         }
         Finding::Law(tool, input, why) => {
             format!("BOTH ARE AGAINST THE DOCUMENTS: {why}. From the state\n{}{}\n", bytes(tool), line(input))
+        }
+        Finding::NameLaw(text, why) => {
+            format!("BOTH ARE AGAINST THE DOCUMENTS: {why}. The text:\n{}\n", hex(text))
         }
     }
 }
@@ -56,6 +60,20 @@ fn tell_sound(both: &Both, tool: &Tool) -> String {
         bytes(&tool),
         word(both.proved.sound(&tool)),
         word(both.independent.sound(&tool)),
+    )
+}
+
+fn tell_name(both: &Both, text: &[u8]) -> String {
+    let text = shortest_text(text, |text| both.name(text).is_none());
+    let name = |length: u32| match length {
+        0 => "no name".into(),
+        _ => format!("a name of {length} bytes"),
+    };
+    format!(
+        "DIFFERENT. The text\n{}\nproved       {}\nindependent  {}\n",
+        hex(&text),
+        name(both.proved.name(&text)),
+        name(both.independent.name(&text)),
     )
 }
 

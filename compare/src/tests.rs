@@ -1,6 +1,7 @@
 //! Programs that are wrong on purpose, and the scripts that must be found for them.
 
 mod wrong_maps;
+mod wrong_names;
 
 use independent::gen::requests::random_run_input;
 use independent::gen::{Input, Rng};
@@ -8,7 +9,7 @@ use independent::requests::Tool;
 use independent::{Report, Reports};
 
 use crate::machine::{Both, Independent, Machine, Outcome};
-use crate::parts::{damaged, edges, maps, odd, runs, setups, states, twelve};
+use crate::parts::{damaged, edges, maps, names, odd, runs, setups, states, twelve};
 use crate::play::{Finding, Player, Tally};
 use crate::script::Run;
 use crate::shrink::{differs_after, shortest};
@@ -34,6 +35,10 @@ impl<F: Fn(&Tool, &Input, &mut Outcome)> Machine for Faulty<F> {
     fn sound(&self, tool: &Tool) -> u32 {
         Independent.sound(tool)
     }
+
+    fn name(&self, text: &[u8]) -> u32 {
+        Independent.name(text)
+    }
 }
 
 /// The independent program, which takes what it is given for something else.
@@ -41,10 +46,12 @@ struct Mistaken {
     ports: fn(u32) -> u32,
     input: fn(&Input) -> Input,
     tool: fn(&Tool) -> Tool,
+    text: fn(&[u8]) -> Vec<u8>,
 }
 
 impl Mistaken {
-    const IN_NOTHING: Mistaken = Mistaken { ports: |ports| ports, input: Input::clone, tool: |tool| *tool };
+    const IN_NOTHING: Mistaken =
+        Mistaken { ports: |ports| ports, input: Input::clone, tool: |tool| *tool, text: <[u8]>::to_vec };
 }
 
 impl Machine for Mistaken {
@@ -58,6 +65,10 @@ impl Machine for Mistaken {
 
     fn sound(&self, tool: &Tool) -> u32 {
         Independent.sound(&(self.tool)(tool))
+    }
+
+    fn name(&self, text: &[u8]) -> u32 {
+        Independent.name(&(self.text)(text))
     }
 }
 
@@ -147,6 +158,8 @@ fn first_finding(both: &Both) -> Option<Finding> {
         twelve::compare(both)?;
         edges::compare(both)?;
         maps::compare(both)?;
+        names::compare(both)?;
+        names::texts(both, 5_000, &mut rng)?;
         setups::compare(both, &mut rng)?;
         runs::compare(both, 5_000, &mut rng)?;
         states::compare(both, 5_000, &mut rng)?;
@@ -252,7 +265,7 @@ fn odd_names_and_codes_have_document_01s_answers() {
     let codes = |i: &Input| i.codes.iter().map(|&c| if c == 6 { 5 } else { c }).collect();
     let part = |both: &Both, rng: &mut Rng| odd::compare(both, 1, rng).map(drop);
     let why = against(|before, i, o| mends(i, o, before, Input { name: name(i), ..i.clone() }), part);
-    assert_eq!(why, "the last input is answered 1, not 0");
+    assert_eq!(why, "a text that has no name in it is answered 1");
     let why = against(|before, i, o| mends(i, o, before, Input { codes: codes(i), ..i.clone() }), part);
     assert_eq!(why, "the last input is answered 1, not 0");
 }

@@ -45,14 +45,14 @@ fn every_number(both: &Both, tally: &mut Tally) -> Result<(), Finding> {
     Ok(())
 }
 
-/// Each value of each byte of a name of 16: a name if and only if the byte is 0x21 to 0x7E.
+/// Each value of each byte of a name of 16: a name if and only if the byte is 0x21 to 0x7E, or a blank at the end.
 fn every_byte_of_a_name(both: &Both, tally: &mut Tally) -> Result<(), Finding> {
     let mut player = Player::begin(both, tally, 1, 0)?;
     for place in 0..16 {
         for byte in 0..=255 {
             let mut name = *b"ABCDEFGHIJKLMNOP";
             name[place] = byte;
-            let good = (0x21..=0x7E).contains(&byte);
+            let good = (0x21..=0x7E).contains(&byte) || place == 15 && byte == 0x20;
             player.expect_look(&named(3, &name), !good as u32)?;
         }
     }

@@ -1,10 +1,12 @@
 //! Programs that are wrong on purpose about the maps of P1.
 
 use super::*;
+use crate::laws::shortened;
 
 /// Where the record of the input's name stands.
 fn position(tool: &Tool, input: &Input) -> Option<usize> {
-    tool.base.carriers().iter().position(|c| independent::gen::unpadded(&c.name) == input.name)
+    let name = shortened(&input.name);
+    tool.base.carriers().iter().position(|c| independent::gen::unpadded(&c.name) == name)
 }
 
 /// How many slots of the expected map a slot map has right; 0 where no map is expected.
@@ -114,7 +116,7 @@ fn an_id_that_is_asked_for_is_found_from_states() {
     let told = tell(&both, &finding);
     assert_eq!((told.matches("  record ").count(), told.matches("  map ").count()), (1, 1), "{told}");
     let Finding::State(_, input) = &finding else { unreachable!() };
-    let name: String = input.name.iter().map(|byte| format!("{byte:02x}")).collect();
+    let name = crate::script::hex(shortened(&input.name));
     assert!(told.contains(&format!("  map {name} 0")), "{told}");
     assert!(
         told.contains("1 2]\nindependent  0 1 [6 ") && told.contains("slot: proved 2, independent 3"),
