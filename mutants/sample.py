@@ -13,7 +13,7 @@ from operators import KINDS
 
 # Files of specs/ that are tables of cases and what these need: definitions are tried against them.
 TABLES = ("Inputs", "TwelveRows", "EveryRow", "EveryPair", "Reachable", "Conditions", "Pairs", "Effects", "Clauses",
-          "Edges", "Judged")
+          "Edges", "Judged", "Texts", "Cases")
 
 
 def is_table(file):
