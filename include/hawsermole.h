@@ -3,7 +3,8 @@
  * Verify the pod before you open it.
  *
  * Three steps: hm_setup once, hm_step for every input, and after each accepted input pass the reports on.
- * The rules are document 01's, with the expected maps of document 02's request P1. C99, C11 and C++17.
+ * The rules are document 01's, with document 02's requests P1, expected maps, and P4, names padded with blanks.
+ * C99, C11 and C++17.
  * Link with libhawsermole.a; see examples/firmware.c.
  *
  * WHAT THE LIBRARY ANSWERS FOR
@@ -46,6 +47,8 @@ extern "C" {
 #define HM_NAME_BYTES 16           /* a name is 1 to 16 bytes, */
 #define HM_NAME_BYTE_LEAST 0x21    /* each from 0x21 */
 #define HM_NAME_BYTE_GREATEST 0x7E /* to 0x7E */
+#define HM_TEXT_BYTES 32           /* as it is sent it may have blanks at its end, up to 32 bytes in all */
+#define HM_BLANK 0x20              /* the only byte that is a blank */
 #define HM_SPARE_BYTES 991         /* bytes of a tool that hold nothing yet */
 #define HM_TOOL_BYTES 3782
 #define HM_REPORTS_BYTES 141
@@ -236,10 +239,19 @@ uint32_t hm_setup(hm_tool *tool, uint32_t ports, uint32_t places);
  * Gives one input to the tool and answers it, by enum hm_answer. What the reports held before is gone.
  * 0: the tool is the one that follows, and the reports are its differences from the one before.
  * Else refused: the tool is as it was, byte for byte, and the reports are all zero.
- * A name is given by its own bytes and its own length, without the zeros that pad it inside the structs.
+ * A name is given by its own bytes and its own length, without the zeros that pad it inside the structs. Blanks at its
+ * end are dropped before the row sees it: record, comparison and report have the name that hm_name tells. A text
+ * that is no name is refused with 1 by every input that reads a name; length 0 alone is no name given.
  */
 uint32_t hm_step(hm_tool *tool, hm_reports *reports, uint32_t number, uint32_t port, uint32_t value,
                  const uint8_t *name, uint64_t name_length, const uint8_t *codes, uint64_t codes_length);
+
+/*
+ * How many bytes of a text, from its first, are the name that an input with it has: 1 to 16. 0: refused, since it has
+ * more than 32 bytes, a blank elsewhere than at the end, nothing left without the blanks at the end, more than 16 left,
+ * or a byte that no name has. A tag reader's text may be asked of before it is sent; hm_step does so by itself.
+ */
+uint32_t hm_name(const uint8_t *text, uint64_t length);
 
 /* 1 when the tool, whatever its bytes, is sound, else 0. Changes nothing. hm_step asks it for every input. */
 uint32_t hm_sound(const hm_tool *tool);

@@ -14,10 +14,11 @@
 static struct room tool_room, reports_room, name_room, codes_room;
 static unsigned long inputs, seed, at, failures, set_ups, unsound_tools, damaged_tools, slot_maps[HM_STATUS_FAILED + 1];
 static unsigned long answers[HM_REFUSED_PLACE_OR_OPENER_TAKEN + 1], accepted_rows[HM_INPUTS + 1];
+static unsigned long accepted_padded, refused_texts;
 static unsigned most_records;
 
 struct outcome {
-    uint32_t sound_before, answer, sound_after;
+    uint32_t sound_before, name_bytes, answer, sound_after;
     hm_tool tool;
     hm_reports reports;
     int kept; /* guards, name and codes are as they were */
@@ -63,6 +64,7 @@ static struct outcome call(const hm_tool *tool, const struct input *in, enum pla
     c = lend(&codes_room, placing, in->codes, in->codes_length);
 
     out.sound_before = hm_sound((const hm_tool *)t.readable);
+    out.name_bytes = hm_name(n.readable, in->name_length);
     out.answer = hm_step((hm_tool *)t.writable, (hm_reports *)r.writable, in->number, in->port, in->value, n.readable,
                          in->name_length, c.readable, in->codes_length);
     out.sound_after = hm_sound((const hm_tool *)t.readable);
@@ -123,6 +125,27 @@ static void judge_slot_map(const hm_tool *before, const struct input *in, const 
     slot_maps[expected]++;
 }
 
+/* Document 01's rows with a name; in CancelBind it may be missing. */
+static int needs_name(const struct input *in)
+{
+    int takes = (in->number >= HM_INPUT_BIND && in->number <= HM_INPUT_CARRIER_IN) || in->number == HM_INPUT_ID_READ ||
+                (in->number >= HM_INPUT_OPEN && in->number <= HM_INPUT_CLOSE);
+    return takes && !(in->number == HM_INPUT_CANCEL_BIND && in->name_length == 0);
+}
+
+/* A text that is no name is 1 where a name is needed. */
+static void judge_name(const struct input *in, const struct outcome *out)
+{
+    if (out->name_bytes > HM_NAME_BYTES || out->name_bytes > in->name_length) {
+        wrong(in, "a name of more bytes than there are");
+    }
+    if (needs_name(in) && out->name_bytes == 0 && out->answer != HM_REFUSED_OUT_OF_RANGE) {
+        wrong(in, "a text that is no name has to be answered 1");
+    }
+    refused_texts += needs_name(in) && out->name_bytes == 0;
+    accepted_padded += needs_name(in) && out->answer == HM_ACCEPTED && out->name_bytes < in->name_length;
+}
+
 static void judge(const hm_tool *before, const struct input *in, const struct outcome *out)
 {
     if (out->answer > HM_REFUSED_PLACE_OR_OPENER_TAKEN || out->sound_before > 1) {
@@ -132,6 +155,7 @@ static void judge(const hm_tool *before, const struct input *in, const struct ou
     if (!out->kept) {
         wrong(in, "name, codes or a guard byte changed");
     }
+    judge_name(in, out);
     if (out->answer == HM_ACCEPTED) {
         if (out->sound_before != 1 || in->number < 1 || in->number > HM_INPUTS) {
             wrong(in, "accepted, but not an input to a sound tool");
@@ -166,22 +190,35 @@ static void count(const struct input *in, const struct outcome *out)
     }
 }
 
+/* The same input to the same tool; of a name, with other blanks after it. */
+static void once_more(const hm_tool *tool, const struct input *in, const struct outcome *out)
+{
+    struct input same = *in;
+    struct outcome again;
+
+    if (out->name_bytes != 0) {
+        memset(same.name + out->name_bytes, HM_BLANK, HM_TEXT_BYTES - out->name_bytes);
+        same.name_length = out->name_bytes + below(HM_TEXT_BYTES - out->name_bytes + 1);
+    }
+    again = call(tool, &same, (enum placing)below(PLACINGS));
+    if (again.answer != out->answer || memcmp(&again.tool, &out->tool, sizeof out->tool) != 0 ||
+        memcmp(&again.reports, &out->reports, sizeof out->reports) != 0) {
+        wrong(in, "the same input to the same tool came out differently");
+    }
+}
+
 /* One input to this tool, which becomes the one that follows; now and then given twice, which must not matter. */
 static void one_input(hm_tool *tool)
 {
     struct input in;
-    struct outcome out, again;
+    struct outcome out;
 
     next_input(&in, tool);
     out = call(tool, &in, (enum placing)below(PLACINGS));
     judge(tool, &in, &out);
     count(&in, &out);
     if (below(8) == 0) {
-        again = call(tool, &in, (enum placing)below(PLACINGS));
-        if (again.answer != out.answer || memcmp(&again.tool, &out.tool, sizeof out.tool) != 0 ||
-            memcmp(&again.reports, &out.reports, sizeof out.reports) != 0) {
-            wrong(&in, "the same input to the same tool came out differently");
-        }
+        once_more(tool, &in, &out);
     }
     *tool = out.tool;
 }
@@ -255,10 +292,13 @@ static void summary(void)
         rows += accepted_rows[i] > 0;
     }
     printf("\nrows accepted %u of %u, most records %u, ", rows, HM_INPUTS, most_records);
-    printf("slot maps OK at once %lu, for the host %lu, %lu failed\n", slot_maps[HM_STATUS_OK],
-           slot_maps[HM_STATUS_WAITING_FOR_HOST], failures);
+    printf("slot maps OK at once %lu, for the host %lu, ", slot_maps[HM_STATUS_OK],
+           slot_maps[HM_STATUS_WAITING_FOR_HOST]);
+    printf("padded names accepted %lu, texts that are no name %lu, %lu failed\n", accepted_padded, refused_texts,
+           failures);
     if (inputs >= ENOUGH && (rows < HM_INPUTS || met <= HM_REFUSED_PLACE_OR_OPENER_TAKEN || unsound_tools == 0 ||
-                             slot_maps[HM_STATUS_OK] == 0 || slot_maps[HM_STATUS_WAITING_FOR_HOST] == 0)) {
+                             slot_maps[HM_STATUS_OK] == 0 || slot_maps[HM_STATUS_WAITING_FOR_HOST] == 0 ||
+                             accepted_padded == 0 || refused_texts == 0)) {
         fprintf(stderr, "too little was met for this to mean anything\n");
         failures++;
     }

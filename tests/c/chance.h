@@ -82,6 +82,15 @@ static void odd_name(struct input *in)
     }
 }
 
+/* Blanks after the name: most leave at most 32 bytes. */
+static void pad(struct input *in)
+{
+    uint32_t most = LONGEST - in->name_length, room = HM_TEXT_BYTES - HM_NAME_BYTES + (below(8) ? 0 : 20);
+    uint32_t blanks = below((room < most ? room : most) + 1);
+    memset(in->name + in->name_length, HM_BLANK, blanks);
+    in->name_length += blanks;
+}
+
 /* Codes of a slot map. */
 static void good_codes(struct input *in)
 {
@@ -231,6 +240,9 @@ static void next_input(struct input *in, const hm_tool *tool)
     fitting_codes(in, tool);
     if (below(12) == 0) {
         one_odd_part(in);
+    }
+    if (below(4) == 0) {
+        pad(in);
     }
 }
 

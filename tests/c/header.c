@@ -6,6 +6,7 @@ HM_HOLDS(limits_of_a_tool, HM_PORTS == 4 && HM_PLACES == 16 && HM_EXPECTED == 16
 HM_HOLDS(limits_of_an_input, HM_INPUTS == 26 && HM_SLOTS == 25 && HM_REPORTS == 7 && HM_NAME_BYTES == 16);
 HM_HOLDS(records_at_once, HM_RECORDS == HM_EXPECTED + HM_PLACES + HM_PORTS);
 HM_HOLDS(bytes_of_a_name, HM_NAME_BYTE_LEAST == 0x21 && HM_NAME_BYTE_GREATEST == 0x7E);
+HM_HOLDS(bytes_of_a_text, HM_TEXT_BYTES == 32 && HM_BLANK == 0x20 && HM_BLANK < HM_NAME_BYTE_LEAST);
 HM_HOLDS(models_of_ports, HM_MODEL_TRANSFER == 1 && HM_MODEL_ACCESS == 2 && HM_MODEL_RESERVATION == 3);
 HM_HOLDS(last_model_of_ports, HM_MODEL_TIE == 4);
 HM_HOLDS(models_of_carriers, HM_MODEL_ID == 5 && HM_MODEL_SLOT == 6 && HM_MODEL_ACCESSING == 7);
@@ -130,6 +131,21 @@ static void a_pod_without_a_name(void)
     CHECK(first->id == HM_STATUS_FAILED && is_name(one->tie, "Y"));
 }
 
+static void names(void)
+{
+    const uint32_t notify = HM_INPUT_CARRIER_NOTIFICATION;
+    uint8_t text[HM_TEXT_BYTES];
+
+    memset(text, HM_BLANK, sizeof text);
+    CHECK(hm_name(HM_NOTHING, 0) == 0 && hm_name(text, HM_TEXT_BYTES) == 0);
+    text[0] = HM_NAME_BYTE_LEAST;
+    CHECK(hm_name(text, HM_TEXT_BYTES) == 1);
+    memset(text, HM_NAME_BYTE_GREATEST, HM_NAME_BYTES);
+    CHECK(hm_name(text, HM_TEXT_BYTES) == HM_NAME_BYTES && hm_name(text, HM_NAME_BYTES) == HM_NAME_BYTES);
+    CHECK(hm_step(&tool, &reports, notify, 0, 0, text, HM_TEXT_BYTES, HM_NOTHING, 0) == HM_ACCEPTED);
+    CHECK(memcmp(reports.items[0].name, text, HM_NAME_BYTES) == 0);
+}
+
 static void refusals(void)
 {
     char name[2] = "a";
@@ -168,6 +184,7 @@ int main(void)
     a_pod_is_worked_on(HM_ACCESS_END_STOPPED, HM_ACCESSING_STOPPED);
     a_pod_goes_out();
     a_pod_without_a_name();
+    names();
     refusals();
     return result("header");
 }

@@ -24,6 +24,7 @@ struct painted {
 static struct painted for_step = {"hm_step", NULL, NULL};
 static struct painted for_setup = {"hm_setup", NULL, NULL};
 static struct painted for_sound = {"hm_sound", NULL, NULL};
+static struct painted for_name = {"hm_name", NULL, NULL};
 
 static ucontext_t here, there;
 static hm_tool tool;
@@ -66,6 +67,12 @@ static void call_sound(void)
 {
     for_sound.frame = (const char *)__builtin_frame_address(0);
     answer = hm_sound(&tool);
+}
+
+static void call_name(void)
+{
+    for_name.frame = (const char *)__builtin_frame_address(0);
+    answer = hm_name(in.name, in.name_length);
 }
 
 static void run_on(const struct painted *p, void (*call)(void))
@@ -179,6 +186,7 @@ static void by_chance(unsigned long inputs)
         next_input(&in, &tool);
         step();
         run_on(&for_sound, call_sound);
+        run_on(&for_name, call_name);
     }
 }
 
@@ -200,12 +208,14 @@ int main(int argc, char **argv)
     prepare(&for_step);
     prepare(&for_setup);
     prepare(&for_sound);
+    prepare(&for_name);
     chance_state = 1;
     every_row_to_a_full_tool();
     by_chance(argc > 1 ? strtoul(argv[1], NULL, 10) : 50000);
     failed += figure(&for_step);
     failed += figure(&for_setup);
     failed += figure(&for_sound);
+    failed += figure(&for_name);
     printf("over %lu accepted and %lu refused inputs, %lu records removed, %lu of them from a full tool of %lu, ",
            accepted, refused, removed, removed_from_full, most_records);
     printf("%lu slot maps OK at once\n", at_once);
