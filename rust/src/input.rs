@@ -9,7 +9,8 @@ use core::fmt;
 ///
 /// A port, place or value is any 32-bit number, a name and codes are any bytes of any length:
 /// what is outside its range is answered with [`Refusal::OutOfRange`](crate::Refusal::OutOfRange), not cut.
-/// Port 0 and an empty name mean "not given", where the case says so.
+/// Port 0 and an empty name mean "not given", where the case says so. Blanks at the end of a name are dropped
+/// ([`Name::in_text`](crate::Name::in_text)); blanks alone are no name, and don't mean "not given".
 #[expect(
     missing_docs,
     reason = "each case says what its arguments are; a line for each would hide the table"
@@ -84,7 +85,7 @@ pub struct Parts<'a> {
     pub port: u32,
     /// The access mode, service status, buffer place or end of access.
     pub value: u32,
-    /// The carrier's name.
+    /// The carrier's name; it may have blanks at its end.
     pub name: &'a [u8],
     /// The codes of a slot map, or of an expected map.
     pub codes: &'a [u8],
@@ -219,7 +220,8 @@ impl<'a> Input<'a> {
     }
 }
 
-/// The input in document 01's form, with `-` for an empty name: `Bind(1, AB)`, `SlotMap(AC, 25 codes)`.
+/// The input in document 01's form, with `-` for an empty name: `Bind(1, AB)`, `SlotMap(AC, 25 codes)`. A name stands
+/// as it is sent, with `\x20` for a blank.
 ///
 /// ```
 /// use hawsermole::{ExpectedMap, Input};

@@ -2,9 +2,10 @@
 //! load ports, pods and the buffer, one input at a time, no heap.
 //!
 //! The machine itself is an archive, `libhawsermole.a`, proved to give exactly the answer, the state and the
-//! reports that document 01 lays down, with document 02's request P1. This crate wraps it: an [`Input`] has
-//! document 01's name and arguments, a [`Refusal`] is one of its eight reasons, [`Reports`] gives what changed, and an
-//! [`ExpectedMap`] lets the tool judge a slot map that the host knows beforehand.
+//! reports that document 01 lays down, with document 02's requests P1 and P4. This crate wraps it: an [`Input`] has
+//! document 01's name and arguments, a [`Refusal`] is one of its eight reasons, [`Reports`] gives what changed, an
+//! [`ExpectedMap`] lets the tool judge a slot map that the host knows beforehand, and [`Name::in_text`] tells which
+//! name a tag reader's text has without the blanks at its end.
 //!
 //! ```
 //! use hawsermole::{Input, Model, Refusal, Subject, Tool};
@@ -55,7 +56,7 @@ pub mod words;
 
 pub use input::{Input, Parts};
 pub use map::{ExpectedMap, MapError};
-pub use name::{Name, NAME_BYTES};
+pub use name::{Name, NameError, NAME_BYTES, TEXT_BYTES};
 pub use raw::{REPORTS_BYTES, TOOL_BYTES};
 pub use refusal::Refusal;
 pub use report::{Model, Report, Reports, Subject, REPORTS};

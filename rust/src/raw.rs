@@ -29,6 +29,8 @@ unsafe extern "C" {
     pub fn hm_setup(tool: &mut [u8; TOOL_BYTES], ports: u32, places: u32) -> u32;
     /// 1 if a tool, whatever its bytes, is sound, else 0.
     pub fn hm_sound(tool: &[u8; TOOL_BYTES]) -> u32;
+    /// How many bytes of a text are its name, 0 where it is refused; [`name_length`] is the same with a slice.
+    pub fn hm_name(text: *const u8, length: u64) -> u32;
     /// One input; [`step`] is the same with slices.
     pub fn hm_step(
         tool: &mut [u8; TOOL_BYTES],
@@ -48,6 +50,18 @@ unsafe extern "C" {
 /// Whether the archive has the sizes of this crate. One of another version could write past the bytes that it is lent.
 pub fn sizes_agree() -> bool {
     (hm_tool_size(), hm_reports_size()) == (TOOL_BYTES as u32, REPORTS_BYTES as u32)
+}
+
+/// How many bytes of a text, from its first, are its name, 1 to 16; 0 where the text is refused.
+///
+/// ```
+/// use hawsermole::raw::name_length;
+///
+/// assert_eq!((name_length(b"AB  "), name_length(b"A B"), name_length(b"  ")), (2, 0, 0));
+/// ```
+pub fn name_length(text: &[u8]) -> usize {
+    // SAFETY: a slice's pointer is never null, and the archive reads no further than its length.
+    unsafe { hm_name(text.as_ptr(), text.len() as u64) as usize }
 }
 
 /// One input: the answer; tool and reports are written in place.

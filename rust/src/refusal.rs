@@ -16,7 +16,8 @@ use core::fmt;
 #[repr(u8)]
 pub enum Refusal {
     /// 1: a port, place, value or name is outside its range, the input number isn't 1 to 26, or the state isn't sound;
-    /// also codes that are no slot map, or no [`ExpectedMap`](crate::ExpectedMap) in rows 1 and 3.
+    /// also codes that are no slot map, or no [`ExpectedMap`](crate::ExpectedMap) in rows 1 and 3, and a text in which
+    /// there is no [`Name`](crate::Name::in_text).
     OutOfRange = 1,
     /// 2: the name has no record, where the row says so.
     NoRecord = 2,

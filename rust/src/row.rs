@@ -9,7 +9,7 @@ pub enum Argument {
     PortOrNone,
     /// A carrier's name.
     Name,
-    /// A carrier's name, or an empty one for "not given".
+    /// A carrier's name, or an empty one for "not given"; blanks alone are neither.
     NameOrNone,
     /// 0 MANUAL, 1 AUTO.
     Access,
