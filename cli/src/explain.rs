@@ -1,6 +1,8 @@
 //! What an input, its answer and its reports mean, in E87's words: indented lines below the answer.
 use crate::print::{self, Answer};
-use hawsermole::{Argument, ExpectedMap, Model, Parts, Refusal, Report, Row, Subject, Tool, SLOTS};
+use hawsermole::{
+    Argument, ExpectedMap, Model, Name, NameError, Parts, Refusal, Report, Row, Subject, Tool, SLOTS,
+};
 
 /// A set-up's answer.
 pub fn setup(tool: &Tool, refusal: Option<Refusal>) -> String {
@@ -26,35 +28,76 @@ fn counted(count: usize, what: &str) -> String {
     format!("{count} {what}{}", if count == 1 { "" } else { "s" })
 }
 
-/// A line for the input, one for its answer, one for what a refusal would have needed, one for each report, and one
-/// for what a slot map was compared with.
+/// A line for the input, one for the name that was used where another text was sent, one for the answer, one for each
+/// thing that a refusal would have needed, one for each report, and one for what a slot map was compared with.
 pub fn answer(tool: &Tool, parts: &Parts, given: &Answer) -> String {
     let row = Row::numbered(parts.number);
     let mut lines = vec![format!("{parts}: {}", row.map_or("no input has this number", |row| row.text))];
+    let name = row.and_then(|row| name_in(row, parts.name));
+    if let Some(Ok(name)) = name {
+        lines.extend(shortened(name, parts.name));
+    }
     match given {
         Ok(_) => lines.push("accepted".into()),
         Err(refusal) => {
             lines.push(format!("refused, {}: {refusal}", refusal.number()));
-            lines.extend(needed(tool, *refusal, row, parts.codes).map(|needed| format!("needed: {needed}")));
+            let needed = needed(tool, *refusal, row, parts).into_iter();
+            lines.extend(needed.map(|needed| format!("needed: {needed}")));
         }
     }
     lines.extend(print::reports(given).map(of_report));
     if given.is_ok() && row.is_some_and(|row| row.arguments.contains(&Argument::Codes)) {
-        lines.push(compared(tool.expected_map(parts.name), parts.codes));
+        let expected = name.and_then(Result::ok).and_then(|name| tool.expected_map(name.as_bytes()));
+        lines.push(compared(expected, parts.codes));
     }
     lines.into_iter().map(|line| format!("  {line}\n")).collect()
 }
 
-/// What was needed, where the refusal itself doesn't say it.
-fn needed(tool: &Tool, refusal: Refusal, row: Option<&Row>, codes: &[u8]) -> Option<String> {
-    match refusal {
-        Refusal::OutOfRange if *tool == Tool::none() => Some("a set-up, since there is no tool".into()),
-        Refusal::OutOfRange if row?.arguments.contains(&Argument::MapOrNone) && !codes.is_empty() => {
-            ExpectedMap::new(codes).err().map(|error| format!("no map, or another one: {error}"))
-        }
-        Refusal::Conditions => row?.conditions.map(String::from),
-        _ => None,
+/// The name that a row uses, or why there is none; nothing where the row takes no name or it may be missing.
+fn name_in(row: &Row, text: &[u8]) -> Option<Result<Name, NameError>> {
+    let takes = |argument: &Argument| match argument {
+        Argument::Name => true,
+        Argument::NameOrNone => !text.is_empty(),
+        _ => false,
+    };
+    row.arguments.iter().any(takes).then(|| Name::in_text(text))
+}
+
+/// The name that was used, where the text that was sent is longer.
+fn shortened(name: Name, text: &[u8]) -> Option<String> {
+    match text.len() - name.as_bytes().len() {
+        0 => None,
+        blanks => Some(format!("the name used is {name}, without {} at its end", counted(blanks, "blank"))),
     }
+}
+
+/// What was needed, where the refusal itself doesn't say it.
+fn needed(tool: &Tool, refusal: Refusal, row: Option<&Row>, parts: &Parts) -> Vec<String> {
+    if *tool == Tool::none() {
+        return vec!["a set-up, since there is no tool".into()];
+    }
+    let Some(row) = row else { return Vec::new() };
+    match refusal {
+        Refusal::OutOfRange => {
+            needed_name(row, parts.name).into_iter().chain(needed_map(row, parts.codes)).collect()
+        }
+        Refusal::Conditions => row.conditions.map(String::from).into_iter().collect(),
+        _ => Vec::new(),
+    }
+}
+
+fn needed_name(row: &Row, text: &[u8]) -> Option<String> {
+    let error = name_in(row, text)?.err()?;
+    Some(match text {
+        [] => "a name".into(),
+        _ => format!("another name: {error}"),
+    })
+}
+
+fn needed_map(row: &Row, codes: &[u8]) -> Option<String> {
+    let sent = row.arguments.contains(&Argument::MapOrNone) && !codes.is_empty();
+    let error = ExpectedMap::new(codes).err().filter(|_| sent)?;
+    Some(format!("no map, or another one: {error}"))
 }
 
 /// Whether the map is the expected one, and what follows from it.
@@ -182,6 +225,53 @@ mod tests {
         assert!(short.ends_with(&format!("{needed} 25 codes, not 2\n")), "{short}");
         assert!(told(&[5; SLOTS]).ends_with("alone, not 5 as at slot 1\n"));
         assert!(!told(&[3; SLOTS]).contains("needed"));
+    }
+
+    /// The lines of an input by its parts, without the first two spaces of each.
+    fn lines(tool: &mut Tool, number: u32, name: &[u8], codes: &[u8]) -> Vec<String> {
+        let parts = Parts { number, port: 1, value: 0, name, codes };
+        let given = tool.step_parts(&parts);
+        answer(tool, &parts, &given).lines().map(|line| line.trim_start().into()).collect()
+    }
+
+    #[test]
+    fn padded_names_and_the_name_used() {
+        let mut tool = tool(1, 0, &[]);
+        let bound = lines(&mut tool, 1, b"AB  ", &[]);
+        assert!(bound[0].starts_with("Bind(1, AB\\x20\\x20): associate"), "{bound:?}");
+        assert_eq!(bound[1..3], ["the name used is AB, without 2 blanks at its end", "accepted"]);
+        assert_eq!(bound[5], "carrier AB: record made, ID NOT READ");
+        let unknown = lines(&mut tool, 19, b"X ", &[]);
+        let used = "the name used is X, without 1 blank at its end";
+        assert_eq!(unknown[1..], [used, "refused, 2: the name has no record"]);
+        assert_eq!(lines(&mut tool, 19, b"X", &[])[1], "refused, 2: the name has no record");
+        assert_eq!(lines(&mut tool, 13, b"X ", &[])[1], "accepted");
+        assert_eq!(lines(&mut Tool::none(), 19, b"X ", &[])[3], "needed: a set-up, since there is no tool");
+    }
+
+    #[test]
+    fn padded_names_have_their_expected_map() {
+        let map = ExpectedMap::new(&[3; SLOTS]).unwrap();
+        let announced = Input::BindWithMap { port: 1, name: NAME, map };
+        let (start, done) = (Input::LoadStart { port: 1 }, Input::LoadDone { port: 1 });
+        let (read, open) = (Input::IdRead { port: 1, name: NAME }, Input::Open { name: NAME });
+        let mut tool = tool(1, 0, &[announced, start, done, read, open]);
+        let last = lines(&mut tool, 20, b"AB   ", &[3; SLOTS]).pop().unwrap();
+        assert_eq!(last, "the map is the expected one: the host isn't asked");
+    }
+
+    #[test]
+    fn texts_that_are_no_name() {
+        let mut tool = tool(1, 0, &[]);
+        let mut told = |number, name: &[u8]| lines(&mut tool, number, name, &[])[2..].join("; ");
+        let blank = "needed: another name: the text has a blank elsewhere than at the end, as byte 2";
+        assert_eq!(told(19, b"A B"), blank);
+        assert_eq!(told(2, b"  "), "needed: another name: nothing is left without the blanks at the end");
+        assert_eq!(told(19, b""), "needed: a name");
+        assert!(told(2, b"").starts_with("needed: what is given means one tied pair"));
+        assert!(!told(24, b"A B").contains("name"));
+        let both = lines(&mut tool, 1, b" A", &[5]);
+        assert!(both[2].starts_with("needed: another name: ") && both[3].starts_with("needed: no map, or"));
     }
 
     #[test]

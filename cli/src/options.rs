@@ -70,7 +70,7 @@ usage: hawsermole [--explain] [FILE]
 Plays a script of SEMI E87 inputs on the proved machine, line by line as it comes, from FILE or
 standard input (no FILE, or -).
 
-  --explain   adds lines in E87's words to each answer and report
+  --explain   adds lines in E87's words to each answer and report, and the name used for a padded one
   --help      prints this
   --version   prints the version
 
@@ -88,8 +88,9 @@ Inputs by name, with names as text:
 
 const HELP_END: &str = "
 
-A PORT of 0 and a NAME of - mean \"not given\". Names may be any text: the machine refuses what no
-carrier can be called. A name that holds a space, or is a single -, is sent with in.
+A PORT of 0 and a NAME of - mean \"not given\". Names may be any text: the machine drops blanks at the
+end, up to 32 bytes in all, and refuses what no carrier can be called. A name that holds a blank, or is
+a single -, is sent with in.
 
 setup prints   setup ANSWER
 in prints      ANSWER COUNT [MODEL SUBJECT OLD NEW; ..]   with names in hex

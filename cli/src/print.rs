@@ -107,11 +107,14 @@ pub mod tests {
         assert_eq!((numbered(&accepted), named(&accepted)), ("0 0 []\n".into(), "0  none\n".into()));
     }
 
+    /// As they were sent, but for the blanks at their end.
     #[test]
-    fn names_print_as_they_were_sent() {
-        let given = tool(1, 0, &[]).step(&Input::CarrierNotification { name: br#"a'"\~!"# });
-        assert!(named(&given).starts_with(r#"0  5 a'"\~! 0>1"#));
-        assert!(numbered(&given).starts_with("0 3 [5 6127225c7e21 0 1;"));
+    fn names_print_as_the_tool_has_them() {
+        for name in [&br#"a'"\~!"#[..], br#"a'"\~!  "#] {
+            let given = tool(1, 0, &[]).step(&Input::CarrierNotification { name });
+            assert!(named(&given).starts_with(r#"0  5 a'"\~! 0>1"#));
+            assert!(numbered(&given).starts_with("0 3 [5 6127225c7e21 0 1;"));
+        }
     }
 
     #[test]
