@@ -157,8 +157,8 @@ impl Tool {
         })
     }
 
-    /// The codes of the slot map that the host expects of a carrier; none where its record has no such map, or the
-    /// name no record. In a sound tool each code is 1 or 3.
+    /// The codes of the slot map that the host expects of a carrier, by its name as the tool holds it, without blanks;
+    /// none where its record has no such map, or the name no record. In a sound tool each code is 1 or 3.
     ///
     /// ```
     /// use hawsermole::{ExpectedMap, Input, Tool};
