@@ -41,7 +41,7 @@ impl Machine for Proved {
     }
 
     fn name(&self, text: &[u8]) -> u32 {
-        raw::name(text)
+        raw::name_length(text) as u32
     }
 }
 

@@ -43,8 +43,6 @@ unsafe extern "C" {
         codes: *const u8,
         codes_length: u64,
     ) -> u32;
-    /// How many bytes of a text are its name; [`name`] is the same with a slice.
-    pub fn hm_name(name: *const u8, length: u64) -> u32;
 }
 
 /// Whether the archive has the sizes of this crate. One of another version could write past the bytes that it is lent.
@@ -84,13 +82,6 @@ pub unsafe fn step(
     unsafe {
         hm_step(tool, reports, number, port, value, name.as_ptr(), name_length, codes.as_ptr(), codes_length)
     }
-}
-
-/// How many bytes of a text are its name, 1 to 16: those before the blanks at its end. 0 where the text is refused.
-#[inline(always)]
-pub fn name(text: &[u8]) -> u32 {
-    // SAFETY: a slice's pointer is never null, also when it is empty, and the archive reads no further than its length.
-    unsafe { hm_name(text.as_ptr(), text.len() as u64) }
 }
 
 #[cfg(test)]
