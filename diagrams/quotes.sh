@@ -6,6 +6,8 @@
 # Blocks marked `played` go to the command line: lines that begin with > are typed, the others are its output.
 # Blocks marked `c` are compiled by $CC, and one with a main is linked with the library and run by $EMULATOR,
 # where that is set; the block `printed` after it is what it prints.
+# The block `side` has the name check to the right of its bars, line for line; the table of texts says of each how many
+# of its bytes are its name, and the command line is asked for each.
 set -u
 [ $# -gt 0 ] || { echo "usage: $0 PROGRAM.." >&2; exit 2; }
 root=$(cd "$(dirname "$0")/.." && pwd)
@@ -53,4 +55,35 @@ for source in "$work"/*.c; do
     run=$((run + 1))
 done
 [ "$run" -gt 0 ] || fail "no C program was run"
-echo "quotes: $(grep -c . "$work/typed") lines played, $run C program run: as the manual says"
+# The rule and the function side by side.
+cat "$work"/*.side >"$work/side" 2>/dev/null || fail "no block has the name check beside its rule"
+sed 's/^[^│]*│ \{0,1\}//' "$work/side" >"$work/got"
+sed -n '/^pub fn name_length/,/^}/p' "$root/crates/names/src/check.rt" >"$work/wanted"
+same "the name check" "$work/wanted" "$work/got"
+lines=$(wc -l <"$work/wanted")
+[ "$lines" -le 30 ] || fail "the name check has $lines lines: more than 30"
+
+# A row of the table of texts: what it is, its bytes (41*16 is sixteen times 41), how many of them are its name.
+# CarrierNotification is answered 1, or 0 with a record of just these bytes.
+sed -n '/^<!-- texts -->$/,/^$/p' "$root/docs/MANUAL.md" | awk -F ' *[|] *' -v typed="$work/texts" -v wanted="$work/wanted" '
+    NF == 6 && $4 ~ /^[0-9]+$/ {
+        hex = ""
+        bytes = split($3, part, " ")
+        for (k = 1; k <= bytes; k++) {
+            gsub(/[`-]/, "", part[k])
+            split(part[k], each, "*")
+            for (j = 0; j < (each[2] == "" ? 1 : each[2]); j++) hex = hex each[1]
+        }
+        name = substr(hex, 1, 2 * $4)
+        print "setup 1 0\nin 3 0 0 " (hex == "" ? "-" : hex) " -" > typed
+        print "0\n" ($4 == 0 ? "1 0 []" : "0 3 [5 " name " 0 1; 6 " name " 0 1; 7 " name " 0 1]") > wanted
+        texts++
+    }
+    END { print texts + 0 }
+' >"$work/count"
+texts=$(cat "$work/count")
+[ "$texts" -ge 10 ] || fail "the table of texts has $texts rows"
+"$@" "$work/texts" >"$work/got" || fail "the command line can't read the table of texts"
+same "the table of texts" "$work/wanted" "$work/got"
+
+echo "quotes: $(grep -c . "$work/typed") lines played, $run C program run, the name check and $texts texts: as the manual says"

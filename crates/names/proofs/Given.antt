@@ -16,22 +16,25 @@ use Rattle.names.specs.Check.{isBlank, remains, refused, shortened}
 use Rattle.names.proofs.Remains.{remains-front, text-is, remains-padded, no-blank-remains}
 
 -- ── A text passes where a name of document 01 remains of at most 32 bytes ──
-graphic-not-blank : (b : ℕ) → graphic b ≡ true → isBlank b ≡ false
+pub graphic-not-blank : (b : ℕ) → graphic b ≡ true → isBlank b ≡ false
 graphic-not-blank b e = let h = leb-true 0x21 b (and-l (leb 0x21 b) _ e) in ne-eqb b 0x20 (λ z. omega arith)
 
-no-blanks : (l : List ℕ) → every graphic l ≡ true → any isBlank l ≡ false
+pub no-blanks : (l : List ℕ) → every graphic l ≡ true → any isBlank l ≡ false
 unfolding every any
 no-blanks [] e = refl
 no-blanks (b ∷ l) e = rw (graphic-not-blank b (and-l (graphic b) _ e)) (no-blanks l (and-r (graphic b) _ e))
 
--- 1 to 16 bytes are not none, and not more than 16
-in-range : (n : ℕ) → (eqb n 0 || ltb 16 n) ≡ not (between 1 n 16)
-in-range zero = refl
-in-range (suc n) = rw (ne-eqb (suc n) 0 (λ z. omega arith), le-leb 1 (suc n) (omega arith)) (go (leb (suc n) 16) refl)
+pub above : (m n : ℕ) → ltb m n ≡ not (leb n m)
+above m n = go (leb n m) refl
   where
-    go : (w : Bool) → leb (suc n) 16 ≡ w → ltb 16 (suc n) ≡ not w
-    go true e = le-ltb 16 (suc n) (leb-true (suc n) 16 e)
-    go false e = lt-ltb 16 (suc n) (leb-false (suc n) 16 e)
+    go : (w : Bool) → leb n m ≡ w → ltb m n ≡ not w
+    go true e = le-ltb m n (leb-true n m e)
+    go false e = lt-ltb m n (leb-false n m e)
+
+-- 1 to 16 bytes are not none, and not more than 16
+pub in-range : (n : ℕ) → (eqb n 0 || ltb 16 n) ≡ not (between 1 n 16)
+in-range zero = refl
+in-range (suc n) = rw (ne-eqb (suc n) 0 (λ z. omega arith), le-leb 1 (suc n) (omega arith)) (above 16 (suc n))
 
 -- of the five grounds, a blank elsewhere is a byte that no name has
 four : (l b z s g : Bool) → (g ≡ true → b ≡ false) → (l || b || z || s || not g) ≡ (l || ((z || s) || not g))
@@ -42,16 +45,9 @@ four false true true s false f = refl
 four false true false true false f = refl
 four false true false false false f = refl
 
-one-not : (a b : Bool) → (not a || not b) ≡ not (a && b)
+pub one-not : (a b : Bool) → (not a || not b) ≡ not (a && b)
 one-not true b = refl
 one-not false b = refl
-
-long : (n : ℕ) → ltb 32 n ≡ not (leb n 32)
-long n = go (leb n 32) refl
-  where
-    go : (w : Bool) → leb n 32 ≡ w → ltb 32 n ≡ not w
-    go true e = le-ltb 32 n (leb-true n 32 e)
-    go false e = lt-ltb 32 n (leb-false n 32 e)
 
 pub refused-is : (text : List ℕ) → refused text ≡ not (leb (length text) 32 && isName (remains text))
 unfolding refused isName
@@ -64,7 +60,7 @@ refused-is text =
     four (ltb 32 k) (any isBlank r) (eqb n 0) (ltb 16 n) g (no-blanks r)
     ∙ ap (λ b. ltb 32 k || (b || not g)) (in-range n)
     ∙ ap (λ b. ltb 32 k || b) (one-not (between 1 n 16) g)
-    ∙ ap (λ b. b || not name) (long k)
+    ∙ ap (λ b. b || not name) (above 32 k)
     ∙ one-not (leb k 32) name
 
 -- ── What it gives ──

@@ -1,4 +1,5 @@
 pub mod Remains
 pub mod Given
 pub mod Lengths
+pub mod Pass
 pub mod Texts

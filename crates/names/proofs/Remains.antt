@@ -26,7 +26,7 @@ unfolding Ends
 ends-at text zero h e = absurd (omega arith)
 ends-at text (suc k) h e = let z : suc k - 1 ≡ k = omega arith in rw z at e
 
-not-all : (l : List ℕ) (k : ℕ) → suc k ≤ length l → isBlank (getD l k 0) ≡ false → every isBlank l ≡ false
+pub not-all : (l : List ℕ) (k : ℕ) → suc k ≤ length l → isBlank (getD l k 0) ≡ false → every isBlank l ≡ false
 unfolding every
 not-all [] k h e = absurd (omega arith)
 not-all (b ∷ l) zero h e = rw e

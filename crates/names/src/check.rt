@@ -1,36 +1,42 @@
 // Names padded with blanks: trailing blanks are dropped, and what remains is a name or is refused.
 ghost use mathlib.Core.Path.{_≡_};
 ghost use lib.ListN.{length};
-ghost use Rattle.names.specs.Check.{remains, nameLength, shortened};
-use records::name::is_name;
+ghost use Rattle.names.specs.Check.{nameLength, shortened};
+use records::sizes::*;
 
 pub const BLANK: u8 = 0x20;
 
 pub const TEXT_MOST: usize = 32;
 
-// How many bytes remain when trailing blanks are dropped.
-fn remaining(text: &[u8]) -> usize
-    ensures { λ r. ⌜ r ≡ length (remains (now (text .entry))) ⌝ }
-{
-    let mut n = text.len();
-    while 0 < n {
-        if text[n - 1] != BLANK {
-            break;
-        }
-        n -= 1;
-    }
-    n
-}
-
-// How many bytes of a text are its name, 0 where the text is refused.
+// The name check: how many bytes of a text are its name, 0 where the text is refused.
 pub fn name_length(text: &[u8]) -> usize
     ensures { λ r. ⌜ r ≡ nameLength (now (text .entry)) ⌝ }
 {
+    // More than 32 bytes: refused.
     if TEXT_MOST < text.len() {
         return 0;
     }
-    let n = remaining(text);
-    if is_name(&text[..n]) { n } else { 0 }
+    // Trailing blanks are dropped: only other bytes are counted as left.
+    let mut left = 0;
+    let mut i = 0;
+    while i < text.len() {
+        let byte = text[i];
+        if byte != BLANK {
+            // A blank elsewhere, before this byte: refused.
+            if left < i {
+                return 0;
+            }
+            // A byte that no name has: refused.
+            if (byte < NAME_BYTE_LEAST) | (NAME_BYTE_GREATEST < byte) {
+                return 0;
+            }
+            left = i + 1;
+        }
+        i += 1;
+    }
+    // Nothing left, or more than 16 left: refused.
+    let refused = (left == 0) | (NAME_BYTES < left);
+    if refused { 0 } else { left }
 }
 
 // How many bytes of a text rows see: its name, or all of it where it is refused.
