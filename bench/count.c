@@ -1,9 +1,10 @@
 /* A plugin of qemu's that counts the instructions of each call of one function, and prints a number for each.
  *
  *   gcc -O2 -shared -fPIC -o count.so count.c
- *   qemu-x86_64 -plugin ./count.so -d plugin -D COUNTS PROGRAM ..
+ *   qemu-x86_64 -plugin ./count.so,function=hm_step -d plugin -D COUNTS PROGRAM ..
  *
- * A call begins with the first block of hm_step and ends with the next block of its only caller, caller_of_hm_step;
+ * A call begins with the first block of the function and ends with the next block of its only caller, whose name is
+ * that of the function after `caller_of_`;
  * all instructions between are counted, in whatever function they are. Each counts where it runs:
  * the length of a block is no measure, since qemu may leave out the last instruction.
  * (qemu reads a program's symbols only while it logs: -d.) */
@@ -34,10 +35,11 @@ void qemu_plugin_outs(const char *text);
 #define EXPORT __attribute__((visibility("default")))
 EXPORT int qemu_plugin_version = 1;
 
+static char function[64], caller[96];
 static int inside;
 static uint64_t count;
 
-static void block_of_hm_step(unsigned int vcpu, void *data)
+static void block_of_function(unsigned int vcpu, void *data)
 {
     (void)vcpu;
     (void)data;
@@ -66,9 +68,9 @@ static void translated(qemu_plugin_id_t id, struct qemu_plugin_tb *tb)
     for (at = 0; at < qemu_plugin_tb_n_insns(tb); at++)
         qemu_plugin_register_vcpu_insn_exec_inline(qemu_plugin_tb_get_insn(tb, at), QEMU_PLUGIN_INLINE_ADD_U64,
                                                    &count, 1);
-    if (name && strcmp(name, "hm_step") == 0)
-        qemu_plugin_register_vcpu_tb_exec_cb(tb, block_of_hm_step, QEMU_PLUGIN_CB_NO_REGS, NULL);
-    if (name && strcmp(name, "caller_of_hm_step") == 0)
+    if (name && strcmp(name, function) == 0)
+        qemu_plugin_register_vcpu_tb_exec_cb(tb, block_of_function, QEMU_PLUGIN_CB_NO_REGS, NULL);
+    if (name && strcmp(name, caller) == 0)
         qemu_plugin_register_vcpu_tb_exec_cb(tb, block_of_its_caller, QEMU_PLUGIN_CB_NO_REGS, NULL);
 }
 
@@ -77,8 +79,9 @@ EXPORT int qemu_plugin_install(qemu_plugin_id_t id, const struct qemu_info *info
 EXPORT int qemu_plugin_install(qemu_plugin_id_t id, const struct qemu_info *info, int argc, char **argv)
 {
     (void)info;
-    (void)argc;
-    (void)argv;
+    if (argc != 1 || sscanf(argv[0], "function=%63s", function) != 1)
+        return -1;
+    snprintf(caller, sizeof caller, "caller_of_%s", function);
     qemu_plugin_register_vcpu_tb_trans_cb(id, translated);
     return 0;
 }

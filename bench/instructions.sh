@@ -1,6 +1,7 @@
 #!/usr/bin/env bash
 # Instructions of one input to the proved machine (one call of hm_step, all that it calls included):
-# the mean over a mix, the worst input, and how both grow with the number of live carriers.
+# the mean over a mix, the worst input, and how both grow with the number of live carriers; and of the name check,
+# hm_name, for texts of some lengths.
 #
 #   bench/instructions.sh [PROGRAM]    the release build of this folder; target/release/bench if none is given
 #
@@ -10,6 +11,7 @@ set -euo pipefail
 here=$(cd "$(dirname "$0")" && pwd)
 program=${1:-$here/target/${CARGO_BUILD_TARGET:+$CARGO_BUILD_TARGET/}release/bench}
 rows=26
+function=hm_step
 work=$(mktemp -d)
 trap 'rm -rf "$work"' EXIT
 
@@ -26,17 +28,17 @@ choose_counter() {
 }
 
 under_callgrind() {
-    valgrind --tool=callgrind --toggle-collect=hm_step --dump-after=hm_step --combine-dumps=yes \
+    valgrind --tool=callgrind --toggle-collect=$function --dump-after=$function --combine-dumps=yes \
         --callgrind-out-file="$work/out" "$program" "$@" >"$work/labels" 2>"$work/errors"
     # One part for each call, and what is left at the end.
     awk '/^summary:/ { print $2 }' "$work/out" | sed '$d' >"$work/counts"
 }
 
 under_qemu() {
-    qemu-x86_64 -plugin "$work/count.so" -d plugin -D "$work/counts" "$program" "$@" >"$work/labels" 2>"$work/errors"
+    qemu-x86_64 -plugin "$work/count.so,function=$function" -d plugin -D "$work/counts" "$program" "$@" >"$work/labels" 2>"$work/errors"
 }
 
-# Plays what bench is told to, and prints a line for each call: COUNT CARRIERS NUMBER ANSWER NAMES PORT VALUE NAME CODES
+# Plays what bench is told to, and prints a line for each call, for hm_step: COUNT CARRIERS NUMBER ANSWER NAMES PORT VALUE NAME CODES
 counted() {
     local calls
     "under_$counter" "$@" || { cat "$work/errors" >&2; echo "bench $* failed" >&2; exit 1; }
@@ -108,6 +110,16 @@ print_growth() {
     done
 }
 
+print_names() {
+    echo
+    echo "the name check alone"
+    function=hm_name
+    counted names >"$work/now"
+    while read -r count bytes name kind; do
+        printf '  %4s   %2s bytes, name of %2s: %s\n' "$count" "$bytes" "$name" "$kind"
+    done <"$work/now"
+}
+
 if [ ! -x "$program" ]; then
     echo "no program $program: build it first (cargo build --release in bench)" >&2
     exit 2
@@ -116,3 +128,4 @@ choose_counter
 print_mean
 print_worst
 print_growth
+print_names

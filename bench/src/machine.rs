@@ -25,6 +25,13 @@ pub fn caller_of_hm_step(
     std::hint::black_box(answer)
 }
 
+/// The name check, known in the same way.
+#[no_mangle]
+#[inline(never)]
+pub fn caller_of_hm_name(text: &[u8]) -> usize {
+    std::hint::black_box(raw::name_length(text))
+}
+
 /// Nothing but reading the input, so that its price is known.
 pub fn reading_alone(
     _: &mut Tool,

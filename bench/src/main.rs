@@ -15,6 +15,7 @@ usage: bench time [N [ROUNDS]]         time per input of N mixed inputs; the las
        bench play N CARRIERS INPUT     plays one input, by its document 01 name or number, from N prepared states
        bench search N CARRIERS         plays every row in turn, accepted and refused, from N prepared states
        bench unsound N CARRIERS        plays every row in turn from N states that aren't sound
+       bench names                     gives texts of some lengths to the name check
 N and ROUNDS from 1, CARRIERS from 0 to 36";
 
 fn number(word: &str, from: usize, to: usize) -> Option<usize> {
@@ -32,6 +33,7 @@ fn run(words: &[&str]) -> Option<Result<(), String>> {
         ["play", n, c] => play::mix(count(n)?, carriers(c)?),
         ["play", n, c, input] => play::one_row(play::row_of(input)?, count(n)?, carriers(c)?),
         ["search", n, c] => play::search(count(n)?, carriers(c)?),
+        ["names"] => play::names(),
         ["unsound", n, c] => play::unsound(count(n)?, carriers(c)?),
         _ => return None,
     }

@@ -1,12 +1,13 @@
 //! Inputs played to the proved machine alone, for what counts instructions. Each call of `hm_step` prints a line,
-//! `CARRIERS NUMBER ANSWER NAMES PORT VALUE NAME CODES`, where CODES is how many there were.
+//! `CARRIERS NUMBER ANSWER NAMES PORT VALUE NAME CODES`, where CODES is how many there were; each of `hm_name`
+//! `BYTES NAME KIND`, where NAME is how many bytes the name has.
 
 use hawsermole::{Row, ROWS};
 use independent::gen::{Input, Rng};
 use independent::requests::Tool;
 use independent::Reports;
 
-use crate::machine::caller_of_hm_step;
+use crate::machine::{caller_of_hm_name, caller_of_hm_step};
 use crate::mix::record;
 use crate::states::{damaged, prepared, FAMILIES};
 
@@ -65,5 +66,20 @@ pub fn unsound(count: usize, carriers: usize) {
         let row = 1 + (k % ROWS.len()) as u32;
         let (state, input) = prepared(carriers, 0, row, true, &mut rng);
         call(&damaged(&state, &mut rng), &input, "damaged");
+    }
+}
+
+/// Texts of 1, 16 and 32 bytes: names, padded ones and one that has too many bytes left.
+pub fn names() {
+    let texts = [("A", 0, "a name"), ("CARRIER-38-LO-07", 0, "a name"), ("LOT-7", 11, "padded")];
+    let longer = [
+        ("CARRIER-38-LO-07", 16, "padded"),
+        ("A", 31, "padded"),
+        ("CARRIER-38-LO-07CARRIER-38-LO-07", 0, "none"),
+    ];
+    for (name, blanks, kind) in texts.into_iter().chain(longer) {
+        let text = format!("{name}{}", " ".repeat(blanks));
+        let length = caller_of_hm_name(text.as_bytes());
+        println!("{} {length} {kind}", text.len());
     }
 }
