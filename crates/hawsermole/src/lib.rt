@@ -4,12 +4,18 @@ ghost use mathlib.Core.Path.{_≡_};
 ghost use mathlib.Core.Bool.{cond};
 ghost use Rattle.rules.specs.Seen.{inputOf};
 ghost use Rattle.names.specs.Check.{nameLength};
+ghost use Rattle.waiting.specs.Waiting.{answerIn, foundIn};
 ghost use Rattle.tool.specs.Whole.{wholeIn, soundWhole};
 ghost use Rattle.hawsermole.specs.Calls.{SetUpCall, StepCall};
 use door::door::door_step;
 use names::check::name_length;
+use records::carrier::Carrier;
 use tool::whole::whole_setup;
 use tool::whole::whole_sound;
+use waiting::found::Found;
+use waiting::found::before_end;
+use waiting::found::stopped_at;
+use waiting::found::waits_for_host;
 
 #[no_mangle]
 pub extern "C" fn hm_tool_size() -> u32
@@ -62,4 +68,24 @@ pub extern "C" fn hm_step(
 {
     let answer = door_step(tool, reports, number, port, value, name, codes);
     answer as u32
+}
+
+// The first carrier that waits for the host, in a table that the equipment lends: C passes its first record and how many there are.
+#[no_mangle]
+pub extern "C" fn hm_waiting(carriers: &[Carrier], found: &mut Found) -> u32
+    ensures { λ r. ⌜ (now (found .exit) ≡ foundIn (now (carriers .entry))) × (r ≡ answerIn (now (carriers .entry))) ⌝ }
+{
+    let mut i = 0;
+    while i < carriers.len() {
+        let c = carriers[i];
+        let w = waits_for_host(c);
+        if w {
+            break;
+        }
+        i += 1;
+    }
+    let n = carriers.len();
+    let f = stopped_at(i, n);
+    *found = f;
+    before_end(i, n)
 }

@@ -1,0 +1,4 @@
+pub mod Where
+pub mod First
+pub mod Answered
+pub mod Cases
