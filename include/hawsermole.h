@@ -3,7 +3,8 @@
  * Verify the pod before you open it.
  *
  * Three steps: hm_setup once, hm_step for every input, and after each accepted input pass the reports on.
- * The rules are document 01's, with document 02's requests P1, expected maps, and P4, names padded with blanks.
+ * The rules are document 01's, with document 02's requests P1, expected maps, P4, names padded with blanks, and P2:
+ * hm_waiting.
  * C99, C11 and C++17.
  * Link with libhawsermole.a; see examples/firmware.c.
  *
@@ -228,6 +229,12 @@ typedef struct hm_reports {
     hm_report items[HM_REPORTS]; /* by model, a removed carrier before the others; all zero past count */
 } hm_reports;
 
+/* What hm_waiting found. */
+typedef struct hm_found {
+    uint64_t position; /* of the first carrier that waits, from 0; the count where none waits */
+    uint64_t read;     /* records that were read to know: the position plus one, or all of them */
+} hm_found;
+
 /*
  * Sets up a tool of 1 to 4 ports and 0 to 16 buffer places. Whatever the tool held before is gone.
  * 0: every port READY TO LOAD and MANUAL, no carrier. 1: out of range; the tool is all zeros, which is no tool:
@@ -255,6 +262,17 @@ uint32_t hm_name(const uint8_t *text, uint64_t length);
 
 /* 1 when the tool, whatever its bytes, is sound, else 0. Changes nothing. hm_step asks it for every input. */
 uint32_t hm_sound(const hm_tool *tool);
+
+/*
+ * Is anyone waiting? Looks in a table of carrier records for the first that waits for the host, which is
+ * HM_STATUS_WAITING_FOR_HOST as ID status or as slot status; nothing else of a record decides. For a panel that asks
+ * every frame: if (hm_waiting(tool.carriers, tool.count, &found)) { .. tool.carriers[found.position] .. }
+ * 1: found->position is the first that waits, and nothing after it was read. 0: none waits, and all were read.
+ * The records may hold any bytes, there may be any number of them, also none, and nothing in them is changed. Of a tool
+ * that may be damaged don't lend more than HM_RECORDS, whatever its count says. What found held before is gone; it
+ * doesn't overlap the records.
+ */
+uint32_t hm_waiting(const hm_carrier *carriers, uint64_t count, hm_found *found);
 
 /* sizeof(hm_tool) and sizeof(hm_reports) as the archive has them: compare once at start. */
 uint32_t hm_tool_size(void);
@@ -295,6 +313,10 @@ HM_AT(hm_carrier, map, 22);
 HM_AT(hm_carrier, id, 47);
 HM_AT(hm_carrier, slot, 48);
 HM_AT(hm_carrier, accessing, 49);
+
+HM_HOLDS(hm_found_size, sizeof(hm_found) == 16);
+HM_AT(hm_found, position, 0);
+HM_AT(hm_found, read, 8);
 
 HM_HOLDS(hm_tool_size, sizeof(hm_tool) == HM_TOOL_BYTES);
 HM_AT(hm_tool, used, 0);

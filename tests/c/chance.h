@@ -4,6 +4,7 @@
 
 #include <string.h>
 
+#include "draw.h"
 #include "hawsermole.h"
 
 #define LONGEST 300 /* bytes of the longest name and of the longest codes */
@@ -13,36 +14,12 @@ struct input {
     uint8_t name[LONGEST], codes[LONGEST];
 };
 
-static uint64_t chance_state;
 static int filling; /* for a while the host announces carriers and cancels none, so that runs come to full tools */
-
-/* splitmix64 */
-static uint64_t draw(void)
-{
-    uint64_t z = chance_state += 0x9E3779B97F4A7C15u;
-    z = (z ^ (z >> 30)) * 0xBF58476D1CE4E5B9u;
-    z = (z ^ (z >> 27)) * 0x94D049BB133111EBu;
-    return z ^ (z >> 31);
-}
-
-/* A number below n, which isn't 0. */
-static uint32_t below(uint32_t n)
-{
-    return (uint32_t)(((draw() >> 32) * n) >> 32);
-}
 
 static uint32_t odd_number(void)
 {
     static const uint32_t odd[] = {0, 5, 17, 27, 255, 256, 257, 65537, 0x80000000u, 0x80000001u, 0xFFFFFFFFu};
     return odd[below(sizeof odd / sizeof odd[0])];
-}
-
-static void any_bytes(uint8_t *bytes, uint32_t length)
-{
-    uint32_t i;
-    for (i = 0; i < length; i++) {
-        bytes[i] = (uint8_t)draw();
-    }
 }
 
 /* One of 44 names, of 1 to 16 bytes; many are the beginning of another. */

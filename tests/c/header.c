@@ -65,6 +65,8 @@ static void bookings_and_service(void)
 
 static void a_pod_comes_in(void)
 {
+    hm_found found;
+
     ACCEPTED(HM_INPUT_LOAD_START, 1, 0, "");
     CHECK(one->transfer == HM_TRANSFER_BLOCKED && one->movement == HM_MOVEMENT_LOADING);
     ACCEPTED(HM_INPUT_LOAD_FAIL, 1, 0, "");
@@ -75,8 +77,10 @@ static void a_pod_comes_in(void)
     ACCEPTED(HM_INPUT_ID_READ, 1, 0, "A");
     CHECK(one->tag == HM_TAG_READ && first->place == HM_PLACE_PORT && first->port == 1);
     CHECK(first->id == HM_STATUS_WAITING_FOR_HOST && first->slot == HM_STATUS_NOT_READ);
+    CHECK(hm_waiting(tool.carriers, tool.count, &found) == 1 && found.position == 0 && found.read == 1);
     ACCEPTED(HM_INPUT_PROCEED_WITH_CARRIER, HM_PORT_NOT_GIVEN, 0, "A");
     CHECK(first->id == HM_STATUS_OK);
+    CHECK(hm_waiting(tool.carriers, tool.count, &found) == 0 && found.position == 1 && found.read == 1);
     ACCEPTED(HM_INPUT_MOVE_IN, 1, HM_PLACES, "");
     CHECK(first->place == HM_PLACE_BUFFER && first->spot == HM_PLACES && first->port == 0);
 }

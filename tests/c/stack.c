@@ -25,6 +25,7 @@ static struct painted for_step = {"hm_step", NULL, NULL};
 static struct painted for_setup = {"hm_setup", NULL, NULL};
 static struct painted for_sound = {"hm_sound", NULL, NULL};
 static struct painted for_name = {"hm_name", NULL, NULL};
+static struct painted for_waiting = {"hm_waiting", NULL, NULL};
 
 static ucontext_t here, there;
 static hm_tool tool;
@@ -73,6 +74,13 @@ static void call_name(void)
 {
     for_name.frame = (const char *)__builtin_frame_address(0);
     answer = hm_name(in.name, in.name_length);
+}
+
+static void call_waiting(void)
+{
+    hm_found found;
+    for_waiting.frame = (const char *)__builtin_frame_address(0);
+    answer = hm_waiting(tool.carriers, HM_RECORDS, &found);
 }
 
 static void run_on(const struct painted *p, void (*call)(void))
@@ -187,6 +195,7 @@ static void by_chance(unsigned long inputs)
         step();
         run_on(&for_sound, call_sound);
         run_on(&for_name, call_name);
+        run_on(&for_waiting, call_waiting);
     }
 }
 
@@ -209,6 +218,7 @@ int main(int argc, char **argv)
     prepare(&for_setup);
     prepare(&for_sound);
     prepare(&for_name);
+    prepare(&for_waiting);
     chance_state = 1;
     every_row_to_a_full_tool();
     by_chance(argc > 1 ? strtoul(argv[1], NULL, 10) : 50000);
@@ -216,6 +226,7 @@ int main(int argc, char **argv)
     failed += figure(&for_setup);
     failed += figure(&for_sound);
     failed += figure(&for_name);
+    failed += figure(&for_waiting);
     printf("over %lu accepted and %lu refused inputs, %lu records removed, %lu of them from a full tool of %lu, ",
            accepted, refused, removed, removed_from_full, most_records);
     printf("%lu slot maps OK at once\n", at_once);
