@@ -32,6 +32,9 @@
 //! # Ok::<(), Refusal>(())
 //! ```
 //!
+//! An operator panel asks every frame whether some carrier waits for the host: [`Tool::waiting`], or [`waiting`] for a
+//! table of records (document 02's request P2).
+//!
 //! No input is too odd: numbers are 32 bits and are not cut, names and codes may be any bytes of any length,
 //! and a [`Tool`] may be made of any bytes. A refusal leaves the tool as it was.
 //!
@@ -52,16 +55,18 @@ mod refusal;
 mod report;
 mod row;
 mod tool;
+mod waiting;
 pub mod words;
 
 pub use input::{Input, Parts};
 pub use map::{ExpectedMap, MapError};
 pub use name::{Name, NameError, NAME_BYTES, TEXT_BYTES};
-pub use raw::{REPORTS_BYTES, TOOL_BYTES};
+pub use raw::{CARRIER_BYTES, REPORTS_BYTES, TOOL_BYTES};
 pub use refusal::Refusal;
 pub use report::{Model, Report, Reports, Subject, REPORTS};
 pub use row::{Argument, Row, ROWS};
 pub use tool::{Carrier, Port, Tool, PORTS, RECORDS, SLOTS};
+pub use waiting::{waiting, Waiting};
 
 /// The manual's Rust is tested with this crate's own examples.
 #[cfg(doctest)]

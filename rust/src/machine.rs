@@ -1,6 +1,6 @@
 //! The archive's functions behind safe ones, which call no archive of another version.
 use crate::input::Parts;
-use crate::raw::{self, REPORTS_BYTES, TOOL_BYTES};
+use crate::raw::{self, CARRIER_BYTES, REPORTS_BYTES, TOOL_BYTES};
 
 /// Sets a tool up; a refused set-up leaves all zeros.
 pub fn setup(tool: &mut [u8; TOOL_BYTES], ports: u32, places: u32) -> u32 {
@@ -22,6 +22,15 @@ pub fn step(tool: &mut [u8; TOOL_BYTES], reports: &mut [u8; REPORTS_BYTES], part
     let Parts { number, port, value, name, codes } = *parts;
     // SAFETY: the sizes agree.
     unsafe { raw::step(tool, reports, number, port, value, name, codes) }
+}
+
+/// Whether a record of a table waits for the host; its position, or the length, and how many records were read.
+pub fn waiting(records: &[[u8; CARRIER_BYTES]]) -> (bool, [u64; 2]) {
+    check_sizes();
+    let mut found = [0; 2];
+    // SAFETY: the sizes agree, and with that of a tool that of a record.
+    let waits = unsafe { raw::waiting(records, &mut found) == 1 };
+    (waits, found)
 }
 
 fn check_sizes() {

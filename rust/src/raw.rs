@@ -18,6 +18,8 @@
 pub const TOOL_BYTES: usize = 3782;
 /// How many bytes the reports of an input have.
 pub const REPORTS_BYTES: usize = 141;
+/// How many bytes a carrier's record has.
+pub const CARRIER_BYTES: usize = 50;
 
 // `include/hawsermole.h` says what each gives.
 unsafe extern "C" {
@@ -25,6 +27,8 @@ unsafe extern "C" {
     pub safe fn hm_tool_size() -> u32;
     /// The bytes of the reports, as the archive has them.
     pub safe fn hm_reports_size() -> u32;
+    /// The first record of a table that waits for the host; [`waiting`] is the same with a slice.
+    pub fn hm_waiting(carriers: *const [u8; CARRIER_BYTES], count: u64, found: &mut [u64; 2]) -> u32;
     /// Sets a tool up; a refused set-up leaves all zeros.
     pub fn hm_setup(tool: &mut [u8; TOOL_BYTES], ports: u32, places: u32) -> u32;
     /// 1 if a tool, whatever its bytes, is sound, else 0.
@@ -62,6 +66,18 @@ pub fn name_length(text: &[u8]) -> usize {
     unsafe { hm_name(text.as_ptr(), text.len() as u64) as usize }
 }
 
+/// Is anyone waiting? 1 when a record of the table waits for the host, else 0. What is found is its position, or the
+/// length, and how many records were read.
+///
+/// # Safety
+/// [`sizes_agree`].
+#[inline(always)]
+pub unsafe fn waiting(records: &[[u8; CARRIER_BYTES]], found: &mut [u64; 2]) -> u32 {
+    // SAFETY: the caller answers for the size of a record. A slice's pointer is never null, also when it is empty, the
+    // archive reads no further than its length and writes to what is found alone, which is lent to it.
+    unsafe { hm_waiting(records.as_ptr(), records.len() as u64, found) }
+}
+
 /// One input: the answer; tool and reports are written in place.
 ///
 /// # Safety
@@ -97,7 +113,7 @@ mod tests {
 
     #[test]
     fn sizes_are_the_sum_of_their_parts() {
-        use crate::tool::{CARRIER_BYTES, HEAD_BYTES, PORT_BYTES, SPARE_BYTES};
+        use crate::tool::{HEAD_BYTES, PORT_BYTES, SPARE_BYTES};
         use crate::{PORTS, RECORDS, SLOTS};
         let of_document_01 = HEAD_BYTES + PORTS * PORT_BYTES + RECORDS * CARRIER_BYTES;
         assert_eq!(TOOL_BYTES, of_document_01 + RECORDS * SLOTS + SPARE_BYTES);

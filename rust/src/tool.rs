@@ -2,9 +2,10 @@
 use crate::input::{Input, Parts};
 use crate::machine;
 use crate::name::{Name, NAME_BYTES};
-use crate::raw::{REPORTS_BYTES, TOOL_BYTES};
+use crate::raw::{CARRIER_BYTES, REPORTS_BYTES, TOOL_BYTES};
 use crate::refusal::Refusal;
 use crate::report::Reports;
+use crate::waiting::{waiting, Waiting};
 use core::fmt;
 
 /// The most ports that a tool has.
@@ -16,7 +17,6 @@ pub const SLOTS: usize = 25;
 
 pub(crate) const HEAD_BYTES: usize = 3;
 pub(crate) const PORT_BYTES: usize = 22;
-pub(crate) const CARRIER_BYTES: usize = 50;
 pub(crate) const SPARE_BYTES: usize = 991;
 const CARRIERS_START: usize = HEAD_BYTES + PORTS * PORT_BYTES;
 const MAPS_START: usize = TOOL_BYTES - SPARE_BYTES - RECORDS * SLOTS;
@@ -151,10 +151,33 @@ impl Tool {
     /// assert_eq!(tool.carriers().last().unwrap().port, 1);
     /// ```
     pub fn carriers(&self) -> impl ExactSizeIterator<Item = Carrier> + '_ {
-        let count = usize::from(self.bytes[2]).min(RECORDS);
-        (0..count).map(|place| {
-            Carrier::read(&self.bytes[CARRIERS_START + place * CARRIER_BYTES..][..CARRIER_BYTES])
-        })
+        self.records().iter().map(|record| Carrier::read(record))
+    }
+
+    /// The records of [`carriers`](Tool::carriers) as the tool holds them, in bytes.
+    pub fn records(&self) -> &[[u8; CARRIER_BYTES]] {
+        let (records, _) = self.bytes[CARRIERS_START..MAPS_START].as_chunks();
+        &records[..usize::from(self.bytes[2]).min(RECORDS)]
+    }
+
+    /// Is anyone waiting? The first of [`carriers`](Tool::carriers) that waits for the host, by ID or by slot map.
+    ///
+    /// ```
+    /// use hawsermole::{Input, Tool, Waiting};
+    ///
+    /// let mut tool = Tool::setup(1, 0).unwrap();
+    /// tool.step(&Input::CarrierNotification { name: b"AB" }).unwrap();
+    /// assert_eq!(tool.waiting(), Waiting { first: None, read: 1 });
+    ///
+    /// // A pod that nobody announced: the host has to judge its name.
+    /// tool.step(&Input::LoadStart { port: 1 }).unwrap();
+    /// tool.step(&Input::LoadDone { port: 1 }).unwrap();
+    /// tool.step(&Input::IdRead { port: 1, name: b"AC" }).unwrap();
+    /// assert_eq!(tool.waiting(), Waiting { first: Some(1), read: 2 });
+    /// assert_eq!(tool.carriers().nth(1).unwrap().name.as_bytes(), b"AC");
+    /// ```
+    pub fn waiting(&self) -> Waiting {
+        waiting(self.records())
     }
 
     /// The codes of the slot map that the host expects of a carrier, by its name as the tool holds it, without blanks;
