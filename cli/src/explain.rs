@@ -1,7 +1,7 @@
 //! What an input, its answer and its reports mean, in E87's words: indented lines below the answer.
 use crate::print::{self, Answer};
 use hawsermole::{
-    Argument, ExpectedMap, Model, Name, NameError, Parts, Refusal, Report, Row, Subject, Tool, SLOTS,
+    words, Argument, ExpectedMap, Model, Name, NameError, Parts, Refusal, Report, Row, Subject, Tool, Waiting, SLOTS,
 };
 
 /// A set-up's answer.
@@ -26,6 +26,23 @@ pub fn tool_kind(tool: &Tool) -> String {
 
 fn counted(count: usize, what: &str) -> String {
     format!("{count} {what}{}", if count == 1 { "" } else { "s" })
+}
+
+/// The number of WAITING FOR HOST, as ID status and as slot status.
+const WAITING: u8 = 2;
+
+/// Who waits for the host, and for what: `carrier AC: ID WAITING FOR HOST; 2 records read`.
+pub fn waiting(tool: &Tool, Waiting { first, read }: Waiting) -> String {
+    let read = counted(read, "record");
+    let Some(carrier) = first.and_then(|position| tool.carriers().nth(position)) else {
+        return format!("  no carrier waits for the host; {read} read\n");
+    };
+    let waits = match (carrier.id, carrier.slot) {
+        (WAITING, WAITING) => format!("{}, {}", words::id(WAITING), words::slot(WAITING)),
+        (WAITING, _) => words::id(WAITING).into(),
+        _ => words::slot(WAITING).into(),
+    };
+    format!("  carrier {}: {waits}; {read} read\n", carrier.name)
 }
 
 /// A line for the input, one for the name that was used where another text was sent, one for the answer, one for each
@@ -183,6 +200,26 @@ mod tests {
             accepted.ends_with("  carrier AC: ID WAITING FOR HOST to ID VERIFICATION OK\n"),
             "{accepted}"
         );
+    }
+
+    #[test]
+    fn who_waits_and_for_what() {
+        let mut tool = tool(1, 0, &[Input::CarrierNotification { name: b"AB" }]);
+        let told = |tool: &Tool| waiting(tool, tool.waiting());
+        assert_eq!(told(&tool), "  no carrier waits for the host; 1 record read\n");
+        assert_eq!(told(&Tool::none()), "  no carrier waits for the host; 0 records read\n");
+        let (start, done) = (Input::LoadStart { port: 1 }, Input::LoadDone { port: 1 });
+        for input in [start, done, Input::IdRead { port: 1, name: b"AC" }] {
+            tool.step(&input).unwrap();
+        }
+        assert_eq!(told(&tool), "  carrier AC: ID WAITING FOR HOST; 2 records read\n");
+        // A sound tool may have both at once.
+        let mut bytes = *tool.as_bytes();
+        bytes[91 + 50 + 48] = WAITING;
+        let both = Tool::from_bytes(&bytes);
+        assert!(both.is_sound());
+        let expected = "  carrier AC: ID WAITING FOR HOST, SLOT MAP WAITING FOR HOST; 2 records read\n";
+        assert_eq!(told(&both), expected);
     }
 
     const NAME: &[u8] = b"AB";

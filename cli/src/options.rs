@@ -81,6 +81,7 @@ begins with #, prints nothing.
   in NUMBER PORT VALUE NAME CODES   an input by number; NAME and CODES in hex, - for none
   dump                              the whole state, for programs
   state                             the same, for people
+  waiting                           the first carrier that waits for the host
 
 Inputs by name, with names as text:
 
@@ -99,6 +100,8 @@ dump prints    port I TRANSFER ACCESS RESERVED TIE MOVEMENT POD TAG
                rec NAME PLACE SPOT PORT OPEN CANCELLED CAME-OUT CODES ID SLOT ACCESSING
                map NAME CODES   for each record with an expected map
                end
+waiting prints waiting POSITION READ, or waiting none READ   the place of the first record, from 0,
+               whose carrier waits for the host, and how many records were read to know
 
 Before a set-up, and after one that was refused, there is no tool: every input is answered 1. A line
 that can't be read is named on standard error and ends the run with status 2.

@@ -24,6 +24,7 @@ impl Player {
             Command::Named(sent) => self.input(sent, print::named),
             Command::Dump => print::dump(&self.tool),
             Command::State => people::state(&self.tool),
+            Command::Waiting => self.waiting(),
         }
     }
 
@@ -42,6 +43,16 @@ impl Player {
         let printed = format!("setup {}\n", refusal.map_or(0, |refusal| refusal.number()));
         match self.explain {
             true => printed + &explain::setup(&self.tool, refusal),
+            false => printed,
+        }
+    }
+
+    /// Without a tool there are no records, and none that waits.
+    fn waiting(&self) -> String {
+        let found = self.tool.waiting();
+        let printed = print::waiting(found);
+        match self.explain {
+            true => printed + &explain::waiting(&self.tool, found),
             false => printed,
         }
     }
@@ -69,8 +80,8 @@ mod tests {
 
     #[test]
     fn without_a_tool_every_input_is_answered_1() {
-        let lines = ["dump", "Bind 1 AB", "in 13 1 0 - -", "state"];
-        let expected = "end\n1  none\n1 0 []\nthere is no tool: set one up with setup P B\n";
+        let lines = ["dump", "Bind 1 AB", "in 13 1 0 - -", "state", "waiting"];
+        let expected = "end\n1  none\n1 0 []\nthere is no tool: set one up with setup P B\nwaiting none 0\n";
         assert_eq!(played(false, &lines), expected);
     }
 

@@ -1,5 +1,5 @@
 //! The printers: answers, reports and the state in the forms that programs read.
-use hawsermole::{Carrier, Name, Port, Refusal, Report, Reports, Subject, Tool};
+use hawsermole::{Carrier, Name, Port, Refusal, Report, Reports, Subject, Tool, Waiting};
 
 /// What the machine answers to an input.
 pub type Answer = Result<Reports, Refusal>;
@@ -33,6 +33,12 @@ fn numbered_entry(report: Report) -> String {
 /// `0  1 1 1>3; 3 1 1>0`, or `7  none`: the form of document 01's table, names as text.
 pub fn named(given: &Answer) -> String {
     format!("{}  {}\n", answer(given), reports(given))
+}
+
+/// `waiting 3 4`, or `waiting none 5`: the first that waits, and how many records were read.
+pub fn waiting(Waiting { first, read }: Waiting) -> String {
+    let first = first.map_or("none".into(), |position| position.to_string());
+    format!("waiting {first} {read}\n")
 }
 
 /// The whole state: a line for each port, for each record and for each expected map, `end`.

@@ -17,6 +17,8 @@ pub enum Command {
     Named(Sent),
     Dump,
     State,
+    /// Is anyone waiting?
+    Waiting,
 }
 
 /// An input as it was written, ready to be sent.
@@ -41,6 +43,7 @@ const SETUP: &str = "setup P B";
 const IN: &str = "in NUMBER PORT VALUE NAME CODES";
 const DUMP: &str = "dump";
 const STATE: &str = "state";
+const WAITING: &str = "waiting";
 
 /// Reads a line, with or without its end. `Err` says what is wrong with it.
 pub fn read(line: &[u8]) -> Result<Command, String> {
@@ -52,6 +55,7 @@ pub fn read(line: &[u8]) -> Result<Command, String> {
         Some(b"in") => read_in(words),
         Some(b"dump") => words.end(DUMP).map(|()| Command::Dump),
         Some(b"state") => words.end(STATE).map(|()| Command::State),
+        Some(b"waiting") => words.end(WAITING).map(|()| Command::Waiting),
         Some(first) => read_named(first, words),
     }
 }
@@ -113,11 +117,12 @@ pub fn usage(row: &Row) -> String {
 }
 
 fn unknown(word: &[u8]) -> String {
-    let mut known = ["setup", "in", "dump", "state"].into_iter().chain(ROWS.iter().map(|row| row.name));
+    let commands = ["setup", "in", "dump", "state", "waiting"];
+    let mut known = commands.into_iter().chain(ROWS.iter().map(|row| row.name));
     match known.find(|known| known.as_bytes().eq_ignore_ascii_case(word)) {
         Some(near) => format!("unknown word '{}': it is written {near}", shown(word)),
         None => format!(
-            "unknown word '{}': expected setup, in, dump, state or an input's name such as Bind",
+            "unknown word '{}': expected setup, in, dump, state, waiting or an input's name such as Bind",
             shown(word)
         ),
     }
@@ -155,6 +160,7 @@ mod tests {
         assert_eq!(read(b"setup 0 4294967295"), Ok(Command::Setup { ports: 0, places: u32::MAX }));
         assert_eq!(read(b"dump\r\n"), Ok(Command::Dump));
         assert_eq!(read(b"\tstate "), Ok(Command::State));
+        assert_eq!(read(b"waiting\n"), Ok(Command::Waiting));
         assert_eq!(read(b"in 20 1 2 4142 0305"), Ok(Command::In(sent(20, 1, 2, b"AB", &[3, 5]))));
         assert_eq!(read(b"in 4294967295 0 0 - -"), Ok(Command::In(sent(u32::MAX, 0, 0, b"", b""))));
     }
@@ -204,11 +210,12 @@ mod tests {
 
     #[test]
     fn unknown_words() {
-        let expected = "expected setup, in, dump, state or an input's name such as Bind";
+        let expected = "expected setup, in, dump, state, waiting or an input's name such as Bind";
         assert_eq!(error("Frobnicate 1"), format!("unknown word 'Frobnicate': {expected}"));
         assert_eq!(read(b"\xfe\xff").unwrap_err(), format!("unknown word '\\xfe\\xff': {expected}"));
         assert_eq!(error("bind 1 AB"), "unknown word 'bind': it is written Bind");
         assert_eq!(error("SETUP 1 0"), "unknown word 'SETUP': it is written setup");
+        assert_eq!(error("Waiting"), "unknown word 'Waiting': it is written waiting");
     }
 
     #[test]
@@ -225,6 +232,7 @@ mod tests {
         assert_eq!(error("Open AB # now"), "'#' is one word too many: expected Open NAME");
         assert_eq!(error("Bind 1 AB - -"), "'-' is one word too many: expected Bind PORT NAME [MAP]");
         assert_eq!(error("dump 1"), "'1' is one word too many: expected dump");
+        assert_eq!(error("waiting 1"), "'1' is one word too many: expected waiting");
         assert_eq!(error("setup 1 0 0"), "'0' is one word too many: expected setup P B");
         assert_eq!(
             error("in 1 1 0 - - -"),
