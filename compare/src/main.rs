@@ -22,7 +22,8 @@ use machine::{Both, Independent, Proved};
 use pairs::{allowed, Pairs};
 use parts::damaged::Damage;
 use parts::names::Texts;
-use parts::{damaged, edges, maps, names, odd, runs, setups, states, twelve};
+use parts::waiting::{Looks, Tables};
+use parts::{damaged, edges, maps, names, odd, runs, setups, states, twelve, waiting};
 use play::{Finding, Tally};
 
 const SEED: u64 = 20_870_312;
@@ -40,7 +41,9 @@ fn main() -> ExitCode {
         return ExitCode::FAILURE;
     };
     let both = Both { proved: &proved, independent: &Independent };
-    match compare(&both, total) {
+    let looks =
+        Looks { proved: &|records| waiting::proved(&proved, records), independent: &waiting::independent };
+    match compare(&both, &looks, total) {
         Ok(table) => table.end(),
         Err(finding) => {
             println!("{}", tell::tell(&both, &finding));
@@ -66,6 +69,7 @@ struct Table {
     /// Accepted inputs whose name was padded, along the runs and from states.
     padded: [u64; 2],
     texts: Texts,
+    tables: Tables,
 }
 
 impl Table {
@@ -103,6 +107,8 @@ impl Table {
         println!("{runs} padded names were accepted along the runs, {states} from random sound states");
         let Texts { compared, names } = self.texts;
         println!("{compared} texts were given to the name check alone, {names} of them have a name");
+        let Tables { compared, waiting } = self.tables;
+        println!("{compared} tables were searched for a carrier that waits for the host, {waiting} of them have one");
         let (met, all, inputs) = (self.along_runs.met(), allowed(), self.inputs);
         println!("{met} of {all} pairs of row and answer met along the runs; {inputs} inputs compared, no difference");
         let shown = !self.at_once.contains(&0) && !self.padded.contains(&0);
@@ -114,7 +120,7 @@ impl Table {
     }
 }
 
-fn compare(both: &Both, total: u64) -> Result<Table, Finding> {
+fn compare(both: &Both, looks: &Looks, total: u64) -> Result<Table, Finding> {
     let mut table = Table::default();
     let mut rng = Rng::new(SEED);
     println!(
@@ -138,5 +144,6 @@ fn compare(both: &Both, total: u64) -> Result<Table, Finding> {
     table.damage("parts mixed up", &damaged::mixed_up(both, total / 4, &mut rng)?);
     table.damage("random bytes", &damaged::random_bytes(both, total / 8, &mut rng)?);
     table.line("odd numbers, names and codes", &odd::compare(both, total / 2, &mut rng)?);
+    table.tables = waiting::compare(looks, total, &mut rng)?;
     Ok(table)
 }

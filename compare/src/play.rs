@@ -25,6 +25,8 @@ pub enum Finding {
     Law(Box<Tool>, Input, String),
     /// As `Document`, of the name in a text.
     NameLaw(Vec<u8>, String),
+    /// The programs don't find the same carrier of a table, or are both against the documents: in words.
+    Table(String),
 }
 
 /// How many inputs were compared, how many of them were accepted, which pairs were met, how many slot maps

@@ -26,6 +26,7 @@ pub fn tell(both: &Both, finding: &Finding) -> String {
         Finding::NameLaw(text, why) => {
             format!("BOTH ARE AGAINST THE DOCUMENTS: {why}. The text:\n{}\n", hex(text))
         }
+        Finding::Table(told) => told.clone(),
     }
 }
 

@@ -9,6 +9,7 @@ pub mod runs;
 pub mod setups;
 pub mod states;
 pub mod twelve;
+pub mod waiting;
 
 use independent::gen::Input;
 

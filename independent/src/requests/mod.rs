@@ -6,14 +6,18 @@
 //!
 //! - P1, slot maps the tool can judge: `maps`.
 //! - P4, names padded with blanks: [`names`].
+//! - P2, is anyone waiting: [`waiting`], which is asked of a table of records and not of a tool.
 
 mod maps;
 pub mod names;
+mod waiting;
 
 use crate::report::Touched;
 use crate::rows::{answered, row, Outcome, Refusal};
 use crate::sound::all_zero;
 use crate::state::{Plain, Reports, MAP_LEN, MAX_CARRIERS};
+
+pub use waiting::waiting;
 
 /// The bytes of a tool that no request has taken yet.
 pub const UNUSED: usize = 991;

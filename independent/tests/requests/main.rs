@@ -9,6 +9,7 @@ mod names;
 mod plain;
 mod runs;
 mod soundness;
+mod waiting;
 
 use independent::gen::padded;
 use independent::requests::{setup, sound, step, Tool};

@@ -2,6 +2,7 @@
 
 mod maps;
 mod names;
+mod tables;
 
 use std::string::String;
 
@@ -9,6 +10,7 @@ use super::{Input, Rng};
 use crate::requests::{Tool, UNUSED};
 
 pub use names::random_text;
+pub use tables::{random_table, LONGEST_TABLE};
 
 /// An input for this state, as a run might meet it.
 pub fn random_run_input(t: &Tool, rng: &mut Rng) -> Input {
