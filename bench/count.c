@@ -4,9 +4,8 @@
  *   qemu-x86_64 -plugin ./count.so,function=hm_step -d plugin -D COUNTS PROGRAM ..
  *
  * A call begins with the first block of the function and ends with the next block of its only caller, whose name is
- * that of the function after `caller_of_`;
- * all instructions between are counted, in whatever function they are. Each counts where it runs:
- * the length of a block is no measure, since qemu may leave out the last instruction.
+ * that of the function after `caller_of_`; all instructions between are counted, in whatever function they are. Each
+ * counts where it runs: the length of a block is no measure, since qemu may leave out the last instruction.
  * (qemu reads a program's symbols only while it logs: -d.) */
 #include <stddef.h>
 #include <stdint.h>

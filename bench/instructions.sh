@@ -1,7 +1,7 @@
 #!/usr/bin/env bash
 # Instructions of one input to the proved machine (one call of hm_step, all that it calls included):
-# the mean over a mix, the worst input, and how both grow with the number of live carriers; and of the name check,
-# hm_name, for texts of some lengths.
+# the mean over a mix, the worst input, and how both grow with the number of live carriers; those of the name check,
+# hm_name, for texts of some lengths; and those of one frame of a panel, hm_waiting.
 #
 #   bench/instructions.sh [PROGRAM]    the release build of this folder; target/release/bench if none is given
 #
@@ -35,10 +35,12 @@ under_callgrind() {
 }
 
 under_qemu() {
-    qemu-x86_64 -plugin "$work/count.so,function=$function" -d plugin -D "$work/counts" "$program" "$@" >"$work/labels" 2>"$work/errors"
+    qemu-x86_64 -plugin "$work/count.so,function=$function" -d plugin -D "$work/counts" "$program" "$@" \
+        >"$work/labels" 2>"$work/errors"
 }
 
-# Plays what bench is told to, and prints a line for each call, for hm_step: COUNT CARRIERS NUMBER ANSWER NAMES PORT VALUE NAME CODES
+# Plays what bench is told to, and prints a line for each call. For hm_step:
+# COUNT CARRIERS NUMBER ANSWER NAMES PORT VALUE NAME CODES
 counted() {
     local calls
     "under_$counter" "$@" || { cat "$work/errors" >&2; echo "bench $* failed" >&2; exit 1; }
@@ -111,13 +113,23 @@ print_growth() {
 }
 
 print_names() {
+    local count bytes name kind function=hm_name
     echo
     echo "the name check alone"
-    function=hm_name
     counted names >"$work/now"
     while read -r count bytes name kind; do
         printf '  %4s   %2s bytes, name of %2s: %s\n' "$count" "$bytes" "$name" "$kind"
     done <"$work/now"
+}
+
+print_frame() {
+    local instructions records read function=hm_waiting
+    echo
+    echo "one frame of a panel"
+    counted frame >"$work/frames"
+    while read -r instructions records read; do
+        printf '  %2s records, %2s read %9s\n' "$records" "$read" "$instructions"
+    done <"$work/frames"
 }
 
 if [ ! -x "$program" ]; then
@@ -129,3 +141,4 @@ print_mean
 print_worst
 print_growth
 print_names
+print_frame

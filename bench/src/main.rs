@@ -1,6 +1,7 @@
 //! The figures: time per input of the proved machine and of the independent program, and inputs whose instructions are
 //! counted.
 
+mod frame;
 mod machine;
 mod mix;
 mod play;
@@ -10,12 +11,13 @@ mod time;
 use std::process::ExitCode;
 
 const USAGE: &str = "\
-usage: bench time [N [ROUNDS]]         time per input of N mixed inputs; the last line is the ratio
+usage: bench time [N [ROUNDS]]         time per frame, and per input of N mixed inputs; the last line is their ratio
        bench play N CARRIERS           plays N mixed inputs near so many live carriers to the proved machine
        bench play N CARRIERS INPUT     plays one input, by its document 01 name or number, from N prepared states
        bench search N CARRIERS         plays every row in turn, accepted and refused, from N prepared states
        bench unsound N CARRIERS        plays every row in turn from N states that aren't sound
        bench names                     gives texts of some lengths to the name check
+       bench frame                     asks whether anyone waits, of 36 records: none does, and the first does
 N and ROUNDS from 1, CARRIERS from 0 to 36";
 
 fn number(word: &str, from: usize, to: usize) -> Option<usize> {
@@ -35,6 +37,7 @@ fn run(words: &[&str]) -> Option<Result<(), String>> {
         ["search", n, c] => play::search(count(n)?, carriers(c)?),
         ["names"] => play::names(),
         ["unsound", n, c] => play::unsound(count(n)?, carriers(c)?),
+        ["frame"] => frame::play(),
         _ => return None,
     }
     Some(Ok(()))

@@ -6,6 +6,7 @@ use std::time::Instant;
 use independent::requests::{step, step_known_sound, Tool};
 use independent::{Plain, Reports};
 
+use crate::frame;
 use crate::machine::{caller_of_hm_step, reading_alone, Step};
 use crate::mix::{record, Mix};
 
@@ -27,6 +28,7 @@ pub fn time(count: usize, rounds: usize) -> Result<(), String> {
             "answers, reports or final tools differ: digests {digests:x?}; run the comparison"
         ));
     }
+    frame::time(count, rounds)?;
     let (live, accepted) = (mix.live(), mix.percent_accepted());
     println!("{count} inputs, P = 4, B = 16, {live:.1} live carriers, {accepted:.1} % accepted");
     println!("{} slot maps OK at once; digest of both {:016x}", mix.at_once, digests[0]);
