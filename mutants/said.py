@@ -19,6 +19,7 @@ COMPUTED = {
     "Effects.antt": "the effects",
     "Clauses.antt": "the clauses",
     "Edges.antt": "the edges",
+    "Cases.antt": "the cases",
 }
 # A crate below is not proved, so that this one wasn't checked.
 BELOW = "rt: FAILED:"
