@@ -1,0 +1,26 @@
+use Rattle.items.specs.Formats.{sizeOf}
+use Rattle.items.proofs.formats.size_of.Statement.{statement}
+use Rattle.items.proofs.formats.size_of.Tie as tie
+
+returns : tie.Need-returns
+unfolding sizeOf
+returns c = rw (c .if1 .taken)
+
+returns-2 : tie.Need-returns-2
+unfolding sizeOf
+returns-2 c = rw (c .before .if1 .left, c .if2 .taken)
+
+returns-3 : tie.Need-returns-3
+unfolding sizeOf
+returns-3 c = rw (c .before .before .if1 .left, c .before .if2 .left, c .if3 .taken)
+
+returns-4 : tie.Need-returns-4
+unfolding sizeOf
+returns-4 c = rw (c .before .before .before .if1 .left, c .before .before .if2 .left, c .before .if3 .left, c .if4 .taken)
+
+returns-5 : tie.Need-returns-5
+unfolding sizeOf
+returns-5 c = rw (c .before .before .before .if1 .left, c .before .before .if2 .left, c .before .if3 .left, c .if4 .left)
+
+pub size-of-spec : {M : Type 1} → statement M
+size-of-spec = tie.close (tie.spec returns returns-2 returns-3 returns-4 returns-5)

@@ -1,0 +1,4 @@
+pub mod Formats
+pub mod Tree
+pub mod Heads
+pub mod Reading
