@@ -1,2 +1,5 @@
 pub mod Refusals
 pub mod Walked
+pub mod Few
+pub mod Found
+pub mod Cases

@@ -1,12 +1,13 @@
 -- Where nothing is refused, none of the five applies.
-use Prim.Native.Nat.{ℕ, zero, suc, _≤_, _<_}
+use Prim.Native.Nat.{ℕ, zero, suc, _+_, _≤_, _<_}
 use native.Mathlib.Omega.{arith}
 use mathlib.Core.Path.{_≡_, refl, sym, _∙_}
 use mathlib.Core.Bool.{Bool, true, false, _&&_}
 use mathlib.Core.List.{List}
-use lib.Dec.{eqb}
-use borrow.Author.Tests.{leb-false, eqb-false}
-use Rattle.lists.proofs.Bools.{clash}
+use lib.ListN.{length}
+use lib.Dec.{eqb, leb, ltb}
+use borrow.Author.Tests.{leb-false, ltb-false, eqb-false}
+use Rattle.lists.proofs.Bools.{clash, or-false-l, or-false-r}
 use Rattle.items.specs.Heads.{isList, cutShort, unknownCode, badLength, tooDeep, tooMany, lowest, refusalOf}
 use Rattle.items.specs.declared.head.Head.{Head}
 
@@ -33,6 +34,22 @@ module _ (m : List ℕ) (at : ℕ) (h : Head) (left count : ℕ) where
   pub accepts : refusalOf m at h left count ≡ 0 → Accepts m at h left count
   unfolding refusalOf
   accepts e = none-of (cutShort m at h) (unknownCode h) (badLength h) (tooDeep left h) (tooMany count) e
+
+  -- what is not cut short: the format byte, the length bytes, the data
+  pub record Inside : Type 0 where
+    pub format : at < length m
+    pub lengths : h .body ≤ length m
+    pub bytes : isList h ≡ false → h .body + h .many ≤ length m
+
+  pub inside : refusalOf m at h left count ≡ 0 → Inside
+  inside e =
+      let w = accepts e .whole in
+      let r = or-false-r (leb (length m) at) _ w in
+      record {
+        format = leb-false (length m) at (or-false-l _ _ w);
+        lengths = ltb-false (length m) (h .body) (or-false-l _ _ r);
+        bytes = λ l. ltb-false (length m) (h .body + h .many) (rw l at (or-false-r (ltb (length m) (h .body)) _ r));
+      }
 
   pub has-few : (r : ℕ) → r ≡ refusalOf m at h left count → r ≡ 0 → count < 128
   has-few r q z = leb-false 128 count (accepts (sym q ∙ z) .few)

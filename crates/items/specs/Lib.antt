@@ -2,3 +2,4 @@ pub mod Formats
 pub mod Tree
 pub mod Heads
 pub mod Reading
+pub mod Cases

@@ -34,9 +34,20 @@ module _ {A : Type 0} where
   codeOf (leaf code a) = code
   codeOf (list xs) = LIST
 
+-- where an item's data stands, and the bytes that stand there; a list has none of its own
+abbrev pub nowhere : Span
+nowhere = record { at = 0; many = 0 }
+
+unfoldable pub spanOf : Item Span → Span
+spanOf (leaf code s) = s
+spanOf (list xs) = nowhere
+
+abbrev pub bytesAt : List ℕ → Span → List ℕ
+bytesAt m s = take (s .many) (drop (s .at) m)
+
 -- no item
 abbrev pub nothing : Item Span
-nothing = leaf 0o77 (record { at = 0; many = 0 })
+nothing = leaf 0o77 nowhere
 
 -- every number and boolean item holds one value
 unfoldable mutual
