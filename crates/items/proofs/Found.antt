@@ -23,7 +23,8 @@ in-order (x ∷ l) = ap (λ r. x ∷ r) (in-order l)
 module _ (f : ℕ → ℕ → Reading (Item Span)) (n at count : ℕ) where
   goes-on : eqb (f at count .refusal) 0 ≡ true
       → readMany f (suc n) at count
-      ≡ finding (readMany f n (f at count .at) (f at count .count)) (f at count .found ∷ readMany f n (f at count .at) (f at count .count) .found)
+      ≡ finding (readMany f n (f at count .at) (f at count .count))
+      (f at count .found ∷ readMany f n (f at count .at) (f at count .count) .found)
   unfolding readMany
   goes-on q = rw q
 
@@ -115,6 +116,7 @@ module _ (m : List ℕ) (left at count : ℕ) (ok : readItem left m at count .re
   pub record Data : Type 0 where
     pub found : readItem left m at count .found ≡ leaf (headAt m at .code) (record { at = headAt m at .body; many = headAt m at .many })
     pub ends : readItem left m at count .at ≡ headAt m at .body + headAt m at .many
+    pub begins : readItem left m at count .count ≡ count + 1
     pub inside : headAt m at .body + headAt m at .many ≤ length m
 
   pub data-found : isList (headAt m at) ≡ false → Data
@@ -123,6 +125,7 @@ module _ (m : List ℕ) (left at count : ℕ) (ok : readItem left m at count .re
       record {
         found = ap (λ r. r .found) e;
         ends = ap (λ r. r .at) e;
+        begins = ap (λ r. r .count) e;
         inside = inside m at (headAt m at) left count (b .head) .bytes q;
       }
 

@@ -25,7 +25,7 @@ pub const DEEPEST: usize = 6;
 pub const MOST_ITEMS: usize = 128;
 
 // The byte at a position, 0 past the end.
-fn byte(msg: &[u8], at: usize) -> usize
+pub fn byte(msg: &[u8], at: usize) -> usize
     ensures { λ r. ⌜ r ≡ getD (now (msg .entry)) at 0 ⌝ }
     ensures { λ r. ⌜ r < 256 ⌝ }
 {

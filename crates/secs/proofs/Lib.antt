@@ -1,0 +1,6 @@
+pub mod Turns
+pub mod Placed
+pub mod Five
+pub mod Attributes
+pub mod Shaped
+pub mod Answered

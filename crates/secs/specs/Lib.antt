@@ -1,0 +1,4 @@
+pub mod Texts
+pub mod Shape
+pub mod Request
+pub mod InPlace
