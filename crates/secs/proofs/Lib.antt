@@ -4,3 +4,4 @@ pub mod Five
 pub mod Attributes
 pub mod Shaped
 pub mod Answered
+pub mod Cases
