@@ -1,25 +1,31 @@
 -- The four answers to a message: 20 to 24, 25, 26, and what the tool gets.
-use Prim.Native.Nat.{ℕ, _+_, _≤_, _<_}
+use Prim.Native.Nat.{ℕ, zero, suc, _+_, _≤_, _<_}
 use native.Mathlib.Omega.{arith}
-use mathlib.Core.Path.{_≡_, refl, sym, _∙_}
+use mathlib.Core.Path.{_≡_, refl, ap, sym, _∙_}
 use mathlib.Core.Bool.{Bool, true, false, not, cond, _&&_}
 use mathlib.Core.List.{List}
-use lib.ListN.{length}
+use lib.ListN.{length, replicate}
 use lib.Dec.{eqb}
 use borrow.Author.Tests.{eq-eqb, ne-eqb, lt-ltb, le-ltb}
 use Rattle.maps.specs.Expected.{carries}
+use Rattle.items.specs.Heads.{headAt}
 use Rattle.items.specs.Reading.{readMessage, walked}
 use Rattle.items.specs.declared.walk.Walk.{Walk}
 use Rattle.secs.specs.Shape.{inShape}
 use Rattle.secs.specs.Request.{refusalIn, requestIn, Handed}
-use Rattle.secs.specs.InPlace.{partsAt, shapeAt, rowAt, hasMapAt, takenAt, notTaken}
+use Rattle.secs.specs.InPlace.{partsAt, shapeAt, rowAt, hasMapAt, codesAt, takenAt, notTaken}
 use Rattle.secs.specs.declared.parts.Parts.{Parts}
 use Rattle.secs.specs.declared.request.Request.{Request}
 use Rattle.secs.proofs.Shaped.{Taken, shape-is, taken-is}
 
-few : (b : Bool) → cond b 25 0 ≤ 25
-few true = omega arith
-few false = omega arith
+as-many : (m : List ℕ) (n at : ℕ) → length (codesAt m n at) ≡ n
+unfolding codesAt
+as-many m zero at = refl
+as-many m (suc n) at = ap suc (as-many m n (headAt m at .body + headAt m at .many))
+
+few : (b : Bool) (m : List ℕ) (at : ℕ) → cond b 25 0 ≤ length (cond b (codesAt m 25 at) (replicate 25 0))
+few true m at = let e = as-many m 25 at in omega arith
+few false m at = omega arith
 
 module _ (m : List ℕ) where
   not-taken : (n : ℕ) → refusalIn m ≡ n → (n ≡ 0 → ⊥) → Handed m (notTaken n (readMessage m .count))
@@ -40,7 +46,7 @@ module _ (m : List ℕ) where
     counted = refl;
     input = k .input (readMessage m .count) ∙ rw n;
     inside = k .inside;
-    few = few (carries (rowAt m (partsAt m .action)) && hasMapAt m (partsAt m .pairs));
+    few = few (carries (rowAt m (partsAt m .action)) && hasMapAt m (partsAt m .pairs)) m _;
   }
 
   module _ (w : Walk) (e : w ≡ walked (readMessage m)) (r : Request) where

@@ -60,4 +60,4 @@ pub record Handed (m : List ℕ) (r : Request) : Type 0 where
   pub counted : r .count ≡ requestIn m .count
   pub input : inputFrom m r ≡ requestIn m .input
   pub inside : r .at + r .many ≤ length m
-  pub few : r .coded ≤ 25
+  pub few : r .coded ≤ length (r .codes)

@@ -1,0 +1,18 @@
+-- The host bridge: what a message gives, read and then stepped.
+use Prim.Native.Nat.{ℕ}
+use mathlib.Core.Bool.{cond}
+use mathlib.Core.List.{List}
+use lib.Dec.{eqb}
+use Rattle.rules.specs.declared.report.Reports.{Reports}
+use Rattle.secs.specs.Request.{requestIn}
+use Rattle.tool.specs.Whole.{Whole, Outcome, refused}
+use Rattle.door.specs.Door.{outcome}
+
+-- The reader's refusal, 20 to 26, as any refusal leaves the tool and the reports; else what the input gives.
+unfoldable pub bridged : Whole → List ℕ → Outcome
+bridged t message =
+    cond (eqb (requestIn message .refusal) 0) (outcome t (requestIn message .input)) (refused t (requestIn message .refusal))
+
+-- The count of items begun comes back in both cases.
+abbrev pub itemsIn : List ℕ → ℕ
+itemsIn message = requestIn message .count
