@@ -3,7 +3,6 @@ use Prim.Native.Nat.{ℕ}
 use mathlib.Core.Bool.{cond}
 use mathlib.Core.List.{List}
 use lib.Dec.{eqb}
-use Rattle.rules.specs.declared.report.Reports.{Reports}
 use Rattle.secs.specs.Request.{requestIn}
 use Rattle.tool.specs.Whole.{Whole, Outcome, refused}
 use Rattle.door.specs.Door.{outcome}

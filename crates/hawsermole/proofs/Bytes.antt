@@ -18,7 +18,9 @@ use Rattle.tool.specs.Whole.{Whole, wholeIn, soundWhole, refused, around, Outco
 use Rattle.tool.proofs.Only.{first-bytes, second-bytes}
 use Rattle.door.specs.Door.{shown, outcome, padded, mayPad}
 use Rattle.door.proofs.Padded.{same-padded}
-use Rattle.hawsermole.specs.Calls.{SetUpCall, StepCall, SameBytes, SameTool}
+use Rattle.secs.specs.Request.{requestIn}
+use Rattle.bridge.specs.Bridge.{bridged}
+use Rattle.hawsermole.specs.Calls.{SetUpCall, StepCall, SecsCall, SameBytes, SameTool}
 
 -- what isn't answered with 0 leaves the tool, and reports nothing
 given-refuses : (t : MappedTool) (i : Input) → givenIn t i .answer ≢ 0 → (givenIn t i .tool ≡ t) × (givenIn t i .reports ≡ noReports)
@@ -33,15 +35,15 @@ given-refuses t i = go (eqb (answerIn (stateOf t) i) 0)
     go true n = absurd (n refl)
     go false n = (refl, refl)
 
-module _ (t : Whole) (i : Input) where
-  abbrev Refuses : Outcome → Type 0
-  Refuses o = o .answer ≢ 0 → (o .tool ≡ t) × (o .reports ≡ noReports)
+abbrev Refuses : Whole → Outcome → Type 0
+Refuses t o = o .answer ≢ 0 → (o .tool ≡ t) × (o .reports ≡ noReports)
 
-  refuses : Refuses (tool.outcome t i)
+module _ (t : Whole) (i : Input) where
+  refuses : Refuses t (tool.outcome t i)
   unfolding tool.outcome
   refuses = go (soundWhole t)
     where
-      go : (w : Bool) → Refuses (cond w (around t (givenIn (t .mapped) i)) (refused t 1))
+      go : (w : Bool) → Refuses t (cond w (around t (givenIn (t .mapped) i)) (refused t 1))
       go true n = let g = given-refuses (t .mapped) i n in (rw (g .0), g .1)
       go false n = (refl, refl)
 
@@ -55,6 +57,22 @@ pub refused-leaves : (before : List (List ℕ)) (i : Input) (r : ℕ) (after : L
 unfolding outcome
 refused-leaves before i r after reports s n =
     let o = refuses (wholeIn before) (shown i) (λ z. n (s .answered ∙ z)) in
+    (same-tool after before (s .tool ∙ o .0), reported-byte reports (replicate 141 0) (s .told ∙ o .1 ∙ sym none-reported))
+
+-- And so does a message that is refused, by the reader or by the tool.
+message-refuses : (t : Whole) (m : List ℕ) → Refuses t (bridged t m)
+unfolding bridged outcome
+message-refuses t m = go (eqb (requestIn m .refusal) 0)
+  where
+    go : (w : Bool) → Refuses t (cond w (outcome t (requestIn m .input)) (refused t (requestIn m .refusal)))
+    go true n = refuses t (shown (requestIn m .input)) n
+    go false n = (refl, refl)
+
+pub message-leaves : (before : List (List ℕ)) (m : List ℕ) (r : ℕ) (after : List (List ℕ)) (reports : List ℕ) (items : ℕ)
+    → SecsCall before m r after reports items → r ≢ 0
+    → SameTool after before × SameBytes 141 reports (replicate 141 0)
+message-leaves before m r after reports items s n =
+    let o = message-refuses (wholeIn before) m (λ z. n (s .answered ∙ z)) in
     (same-tool after before (s .tool ∙ o .0), reported-byte reports (replicate 141 0) (s .told ∙ o .1 ∙ sym none-reported))
 
 -- Two calls that meet the same bytes with the same input give the same answer, and leave the same bytes and the same report list.
@@ -83,3 +101,14 @@ padded-again before i n r r′ after after′ reports reports′ m s t =
 pub set-up-again : (P B r r′ : ℕ) (after after′ : List (List ℕ)) → SetUpCall P B r after → SetUpCall P B r′ after′
     → (r ≡ r′) × SameTool after after′
 set-up-again P B r r′ after after′ s t = (s .answered ∙ sym (t .answered), same-tool after after′ (s .tool ∙ sym (t .tool)))
+
+-- And so for two calls with the same message, which count the same items.
+pub message-again : (before : List (List ℕ)) (m : List ℕ) (r r′ : ℕ) (after after′ : List (List ℕ)) (reports reports′ : List ℕ) (n n′ : ℕ)
+    → SecsCall before m r after reports n → SecsCall before m r′ after′ reports′ n′
+    → (r ≡ r′) × SameTool after after′ × SameBytes 141 reports reports′ × (n ≡ n′)
+message-again before m r r′ after after′ reports reports′ n n′ s t = (
+  s .answered ∙ sym (t .answered),
+  same-tool after after′ (s .tool ∙ sym (t .tool)),
+  reported-byte reports reports′ (s .told ∙ sym (t .told)),
+  s .counted ∙ sym (t .counted),
+)

@@ -3,7 +3,7 @@ use Prim.Native.Nat.{ℕ, _+_, _≤_}
 use native.Mathlib.Omega.{arith}
 use mathlib.Core.Path.{_≡_, refl, ap, sym, subst, _∙_}
 use mathlib.Core.Bool.{Bool, true, false, cond, _&&_}
-use mathlib.Core.List.{List, [], _∷_, map}
+use mathlib.Core.List.{List, [], _∷_, _++_, map}
 use lib.ListN.{length}
 use lib.Dec.{eqb, leb}
 use borrow.Author.Tests.{eqb-true, leb-true}
@@ -25,7 +25,9 @@ use Rattle.tool.specs.Whole.{Whole, wholeIn, soundWhole, setUp, reachedWhole}
 use Rattle.tool.proofs.Tested.{when-sound}
 use Rattle.tool.proofs.Runs.{tool-sound, tool-holds}
 use Rattle.door.specs.Door.{shown, outcome}
-use Rattle.hawsermole.specs.Calls.{Call, Left, stateIn, eventOf, Kept}
+use Rattle.secs.specs.Request.{requestIn}
+use Rattle.bridge.specs.Bridge.{bridged}
+use Rattle.hawsermole.specs.Calls.{Sent, typed, text, Call, Made, Left, stateIn, taken, eventsOf, happened, Kept}
 
 -- an accepted set-up is one of 1 to 4 ports and 0 to 16 places
 module _ (P B : ℕ) where
@@ -56,8 +58,53 @@ answer-is : (t : Whole) (i : Input) → soundWhole t ≡ true → tool.outcome t
 answer-is t i h = ap (λ o. o .answer) (sym (when-sound t i h)) ∙ given-answer (t .mapped) i
 
 -- as the rows saw them
-abbrev inputs : List Call → List Input
-inputs calls = map (λ c. shown (c .input)) calls
+unfoldable inputs : List Call → List Input
+inputs [] = []
+inputs (c ∷ earlier) = taken (c .sent) ++ inputs earlier
+
+-- ── What a call makes of the tool, by the inputs that rows saw: one or none ──
+module _ (before : List (List ℕ)) (answer : ℕ) (after : List (List ℕ)) (reports : List ℕ) where
+  tool-after : (sent : Sent) → Made before sent answer after reports → (earlier : List Input) (t : Whole)
+      → wholeIn before ≡ reachedWhole t earlier → wholeIn after ≡ reachedWhole t (taken sent ++ earlier)
+  unfolding taken outcome reachedWhole bridged
+  tool-after (typed i) k earlier t e = k .tool ∙ ap (λ t. tool.outcome t (shown i) .tool) e
+  tool-after (text m items) k earlier t e = go (eqb (requestIn m .refusal) 0) (k .tool)
+    where
+      go : (w : Bool)
+          → wholeIn after
+          ≡ cond w (outcome (wholeIn before) (requestIn m .input)) (tool.refused (wholeIn before) (requestIn m .refusal)) .tool
+          → wholeIn after ≡ reachedWhole t (cond w (shown (requestIn m .input) ∷ []) [] ++ earlier)
+      go true q = q ∙ ap (λ t. tool.outcome t (shown (requestIn m .input)) .tool) e
+      go false q = q ∙ e
+
+  abbrev happens : Input → Mapped → ℕ → Event
+  happens i s a = record { before = s; input = i; answer = a }
+
+  -- an input that was answered as the tool answers is the run's next event
+  event-after : (i : Input) → answer ≡ tool.outcome (wholeIn before) i .answer → (P B : ℕ) (earlier : List Input)
+      → soundWhole (wholeIn before) ≡ true → stateIn before ≡ reached (start P B) earlier
+      → happens i (stateIn before) answer ∷ events (start P B) earlier ≡ events (start P B) (i ∷ earlier)
+  unfolding events
+  event-after i k P B earlier h e =
+      ap (λ a. happens i (stateIn before) a ∷ events (start P B) earlier) (k ∙ answer-is (wholeIn before) i h)
+      ∙ ap (λ s. happens i s (answerIn s i) ∷ events (start P B) earlier) e
+
+  events-after : (sent : Sent) → Made before sent answer after reports → (P B : ℕ) (earlier : List Input)
+      → soundWhole (wholeIn before) ≡ true → stateIn before ≡ reached (start P B) earlier
+      → map (λ i. happens i (stateIn before) answer) (taken sent) ++ events (start P B) earlier ≡ events (start P B) (taken sent ++ earlier)
+  unfolding taken outcome bridged
+  events-after (typed i) k P B earlier h e = event-after (shown i) (k .answered) P B earlier h e
+  events-after (text m items) k P B earlier h e = go (eqb (requestIn m .refusal) 0) (k .answered)
+    where
+      input : Input
+      input = shown (requestIn m .input)
+
+      go : (w : Bool)
+          → answer ≡ cond w (outcome (wholeIn before) (requestIn m .input)) (tool.refused (wholeIn before) (requestIn m .refusal)) .answer
+          → map (λ i. happens i (stateIn before) answer) (cond w (input ∷ []) []) ++ events (start P B) earlier
+          ≡ events (start P B) (cond w (input ∷ []) [] ++ earlier)
+      go true q = event-after input q P B earlier h e
+      go false q = refl
 
 module _ (P B : ℕ) where
   -- a run begins with a set-up that was accepted
@@ -69,9 +116,11 @@ module _ (P B : ℕ) where
   -- the bytes hold the tool that the definitions reach by the same inputs
   tool-is : (calls : List Call) (bytes : List (List ℕ)) → Left P B calls bytes
       → wholeIn bytes ≡ reachedWhole (setUp P B .tool) (inputs calls)
-  unfolding Left reachedWhole outcome
+  unfolding Left inputs reachedWhole
   tool-is [] bytes l = l .tool
-  tool-is (c ∷ earlier) bytes l = l .1 .tool ∙ ap (λ t. tool.outcome t (shown (c .input)) .tool) (tool-is earlier (c .before) (l .0))
+  tool-is (c ∷ earlier) bytes l =
+      tool-after (c .before) (c .answer) bytes (c .reports) (c .sent) (l .1) (inputs earlier) (setUp P B .tool)
+      (tool-is earlier (c .before) (l .0))
 
   module _ (calls : List Call) (bytes : List (List ℕ)) (l : Left P B calls bytes) where
     sound-is : soundWhole (wholeIn bytes) ≡ true
@@ -80,27 +129,14 @@ module _ (P B : ℕ) where
     state-is : stateIn bytes ≡ reached (start P B) (inputs calls)
     state-is = ap (λ t. stateOf (t .mapped)) (tool-is calls bytes l) ∙ tool-holds P B (set-up calls bytes l) (inputs calls)
 
-  -- the answer that counts for a call is the definitions'
-  answer-given : (c : Call) (earlier : List Call) (bytes : List (List ℕ)) → Left P B (c ∷ earlier) bytes
-      → eventOf c .answer ≡ answerIn (stateIn (c .before)) (shown (c .input))
-  unfolding Left outcome
-  answer-given c earlier bytes l =
-      l .1 .answered ∙ answer-is (wholeIn (c .before)) (shown (c .input)) (sound-is earlier (c .before) (l .0))
-
   -- what happened in the calls is what happens by the definitions
-  events-are : (calls : List Call) (bytes : List (List ℕ)) → Left P B calls bytes → map eventOf calls ≡ events (start P B) (inputs calls)
-  unfolding Left events
+  events-are : (calls : List Call) (bytes : List (List ℕ)) → Left P B calls bytes → happened calls ≡ events (start P B) (inputs calls)
+  unfolding Left happened inputs events
   events-are [] bytes l = refl
   events-are (c ∷ earlier) bytes l =
-      ap (λ a. event (stateIn (c .before)) a ∷ map eventOf earlier) (answer-given c earlier bytes l)
-      ∙ ap (λ s. event s (answerIn s (shown (c .input))) ∷ map eventOf earlier) (state-is earlier (c .before) (l .0))
-      ∙ ap (λ es. event now (answerIn now (shown (c .input))) ∷ es) (events-are earlier (c .before) (l .0))
-    where
-      event : Mapped → ℕ → Event
-      event s a = record { before = s; input = shown (c .input); answer = a }
-
-      now : Mapped
-      now = reached (start P B) (inputs earlier)
+      ap (λ es. eventsOf c ++ es) (events-are earlier (c .before) (l .0))
+      ∙ events-after (c .before) (c .answer) bytes (c .reports) (c .sent) (l .1) P B (inputs earlier) (sound-is earlier (c .before) (l .0))
+      (state-is earlier (c .before) (l .0))
 
 -- each carrier of a state has behind it what happened
 abbrev Backed : Mapped → List Event → Type 0
@@ -117,6 +153,6 @@ kept P B calls bytes l =
       sound = sound-is P B calls bytes l;
       orderly = subst (λ s. Orderly (s .base)) s (p .orderly);
       few = subst (λ s. length (s .base .carriers) ≤ P + B + 16) s (p .few);
-      earned = subst (λ s. Backed s (map eventOf calls)) s
+      earned = subst (λ s. Backed s (happened calls)) s
           (subst (Backed (reached (start P B) (inputs calls))) (sym (events-are P B calls bytes l)) (p .earned));
     }

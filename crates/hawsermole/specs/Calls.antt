@@ -1,9 +1,10 @@
 -- What a caller of the library sees: bytes, inputs, answers and reports, and what is promised of a run of calls.
 use Prim.Native.Nat.{ℕ, _+_, _≤_, _<_}
 use mathlib.Core.Path.{_≡_}
-use mathlib.Core.Bool.{true}
-use mathlib.Core.List.{List, [], _∷_, map}
+use mathlib.Core.Bool.{true, cond}
+use mathlib.Core.List.{List, [], _∷_, _++_, map}
 use lib.ListN.{length, getD}
+use lib.Dec.{eqb}
 use Rattle.rules.specs.State.{recordOf}
 use Rattle.rules.specs.Seen.{Input}
 use Rattle.rules.specs.Promise.{Live, Orderly}
@@ -13,6 +14,8 @@ use Rattle.maps.specs.History.{Event, history}
 use Rattle.maps.specs.Promise.{Earned}
 use Rattle.tool.specs.Whole.{wholeIn, soundWhole, setUp}
 use Rattle.door.specs.Door.{shown, outcome}
+use Rattle.secs.specs.Request.{requestIn}
+use Rattle.bridge.specs.Bridge.{bridged, itemsIn}
 
 -- What hm_setup ensures: the bytes that it leaves hold the tool that set-up gives, and it gives set-up's answer.
 pub record SetUpCall (ports places answer : ℕ) (after : List (List ℕ)) : Type 0 where
@@ -25,26 +28,52 @@ pub record StepCall (before : List (List ℕ)) (input : Input) (answer : ℕ) (a
   pub told : reportsFrom reports ≡ outcome (wholeIn before) input .reports
   pub answered : answer ≡ outcome (wholeIn before) input .answer
 
--- A call of hm_step: the bytes that it met, the input, the answer that it gave, and the report list that it left.
+-- What hm_secs_step ensures: the same of what the message gives, and the count of its items.
+pub record SecsCall (before : List (List ℕ)) (message : List ℕ) (answer : ℕ) (after : List (List ℕ)) (reports : List ℕ) (items : ℕ)
+    : Type 0 where
+  pub tool : wholeIn after ≡ bridged (wholeIn before) message .tool
+  pub told : reportsFrom reports ≡ bridged (wholeIn before) message .reports
+  pub answered : answer ≡ bridged (wholeIn before) message .answer
+  pub counted : items ≡ itemsIn message
+
+-- What a call brings: an input to hm_step, or a message to hm_secs_step, which counted so many items.
+pub data Sent : Type 0 where
+  typed : Input → Sent
+  text : List ℕ → ℕ → Sent
+
+-- A call: the bytes that it met, what was sent, the answer that it gave, and the report list that it left.
 pub record Call : Type 0 where
   pub before : List (List ℕ)
-  pub input : Input
+  pub sent : Sent
   pub answer : ℕ
   pub reports : List ℕ
 
+abbrev pub Made : List (List ℕ) → Sent → ℕ → List (List ℕ) → List ℕ → Type 0
+Made before (typed i) answer after reports = StepCall before i answer after reports
+Made before (text message items) answer after reports = SecsCall before message answer after reports items
+
 -- A run of calls, the latest first, and the bytes that it left: hm_setup answered 0 for P ports and B places,
--- and each call of hm_step met the bytes that the call before it left.
+-- and each call met the bytes that the call before it left.
 unfoldable pub Left : ℕ → ℕ → List Call → List (List ℕ) → Type 0
 Left P B [] bytes = SetUpCall P B 0 bytes
-Left P B (c ∷ earlier) bytes = Left P B earlier (c .before) × StepCall (c .before) (c .input) (c .answer) bytes (c .reports)
+Left P B (c ∷ earlier) bytes = Left P B earlier (c .before) × Made (c .before) (c .sent) (c .answer) bytes (c .reports)
 
 -- the state that bytes hold
 abbrev pub stateIn : List (List ℕ) → Mapped
 stateIn bytes = stateOf (wholeIn bytes .mapped)
 
--- What happened in a call: the name is the shortened one, the answer the one that the call gave.
-abbrev pub eventOf : Call → Event
-eventOf c = record { before = stateIn (c .before); input = shown (c .input); answer = c .answer }
+-- The input that rows saw: a message that the reader refuses brings none.
+unfoldable pub taken : Sent → List Input
+taken (typed i) = shown i ∷ []
+taken (text message items) = cond (eqb (requestIn message .refusal) 0) (shown (requestIn message .input) ∷ []) []
+
+-- What happened in a call: the answer is the one that the call gave.
+abbrev pub eventsOf : Call → List Event
+eventsOf c = map (λ i. record { before = stateIn (c .before); input = i; answer = c .answer }) (taken (c .sent))
+
+unfoldable pub happened : List Call → List Event
+happened [] = []
+happened (c ∷ earlier) = eventsOf c ++ happened earlier
 
 -- The promise, of a run of calls and the bytes that it left: they hold a sound tool, its names, ties and places are in order,
 -- and each of its carriers has behind it what the calls' own answers show.
@@ -53,7 +82,7 @@ pub record Kept (P B : ℕ) (calls : List Call) (bytes : List (List ℕ)) : Type
   pub orderly : Orderly (stateIn bytes .base)
   pub few : length (stateIn bytes .base .carriers) ≤ P + B + 16
   pub earned : (k : ℕ) → Live (stateIn bytes .base) k
-      → Earned (history (recordOf (stateIn bytes .base) k .name) (map eventOf calls)) (recordOf (stateIn bytes .base) k)
+      → Earned (history (recordOf (stateIn bytes .base) k .name) (happened calls)) (recordOf (stateIn bytes .base) k)
 
 -- the first n bytes are the same
 abbrev pub SameBytes : ℕ → List ℕ → List ℕ → Type 0

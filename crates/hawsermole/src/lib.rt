@@ -6,7 +6,8 @@ ghost use Rattle.rules.specs.Seen.{inputOf};
 ghost use Rattle.names.specs.Check.{nameLength};
 ghost use Rattle.waiting.specs.Waiting.{answerIn, foundIn};
 ghost use Rattle.tool.specs.Whole.{wholeIn, soundWhole};
-ghost use Rattle.hawsermole.specs.Calls.{SetUpCall, StepCall};
+ghost use Rattle.hawsermole.specs.Calls.{SetUpCall, StepCall, SecsCall};
+use bridge::bridge::bridge_step;
 use door::door::door_step;
 use names::check::name_length;
 use records::carrier::Carrier;
@@ -88,4 +89,18 @@ pub extern "C" fn hm_waiting(carriers: &[Carrier], found: &mut Found) -> u32
     let f = stopped_at(i, n);
     *found = f;
     before_end(i, n)
+}
+
+#[no_mangle]
+pub extern "C" fn hm_secs_step(
+    tool: &mut [[u8; 1891]; 2],
+    reports: &mut [u8; 141],
+    message: &[u8],
+    items: &mut u32,
+) -> u32
+    ensures { λ r. ⌜ SecsCall (now (tool .entry)) (now (message .entry))
+        r (now (tool .exit)) (now (reports .exit)) (now (items .exit)) ⌝ }
+{
+    let answer = bridge_step(tool, reports, message, items);
+    answer as u32
 }
