@@ -1,0 +1,22 @@
+-- A pattern is a NaN's where its digits lie above an infinity's; off a NaN the bits come back.
+use mathlib.Core.Path.{_≡_, refl, sym, ap, subst, _∙_}
+use Prim.Native.Nat.{ℕ, _*_, _%_, _<_, _≤_, _^_}
+use mathlib.Core.Bool.{Bool, true, false, not}
+use lib.Dec.{T, ltb}
+use borrow.Author.Tests.{lt-ltb, le-ltb}
+use lib.Ieee.{Float, nan, inf, fin, Format, hid, ones, top, ofBits, toBits, nanBits, isNan, ne}
+use lib.Ieee.Bits.{nanBits-above, nanBits-is, toBits-ofBits}
+use lib.Ieee.Compare.{differs-from-itself, nan-differs}
+
+module _ (f : Format) (b : ℕ) where
+  pub nan-bits : ones f * hid f < b % top f → nanBits f b ≡ true
+  nan-bits h = nanBits-above f b ∙ lt-ltb (ones f * hid f) (b % top f) h
+
+  pub no-nan-bits : b % top f ≤ ones f * hid f → nanBits f b ≡ false
+  no-nan-bits h = nanBits-above f b ∙ le-ltb (ones f * hid f) (b % top f) h
+
+  pub off-nan : nanBits f b ≡ false → T (not (nanBits f b))
+  off-nan h = rw h tt
+
+  pub bits-back : b < 2 * top f → nanBits f b ≡ false → toBits f (ofBits f b) ≡ b
+  bits-back l h = toBits-ofBits f b l (rw (sym (nanBits-is f b)) (off-nan h))

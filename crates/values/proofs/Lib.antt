@@ -1,0 +1,4 @@
+pub mod Floats
+pub mod Sizes
+pub mod Chosen
+pub mod Untouched
