@@ -21,7 +21,7 @@ in-order (x ∷ l) = ap (λ r. x ∷ r) (in-order l)
 
 -- ── One after the other ──
 module _ (f : ℕ → ℕ → Reading (Item Span)) (n at count : ℕ) where
-  goes-on : eqb (f at count .refusal) 0 ≡ true
+  pub goes-on : eqb (f at count .refusal) 0 ≡ true
       → readMany f (suc n) at count
       ≡ finding (readMany f n (f at count .at) (f at count .count))
       (f at count .found ∷ readMany f n (f at count .at) (f at count .count) .found)
@@ -62,7 +62,7 @@ inner zero m = refusedAt 23
 inner (suc left) m = readItem left m
 
 module _ (m : List ℕ) (at count : ℕ) where
-  begun : (left : ℕ) → eqb (refusalOf m at (headAt m at) left count) 0 ≡ true
+  pub begun : (left : ℕ) → eqb (refusalOf m at (headAt m at) left count) 0 ≡ true
       → readItem left m at count ≡ readBody (inner left m) (headAt m at) count
   unfolding readItem readBy
   begun zero q = rw q

@@ -2,4 +2,6 @@ pub mod Refusals
 pub mod Walked
 pub mod Few
 pub mod Found
+pub mod Spelt
+pub mod ReadBack
 pub mod Cases
