@@ -4,4 +4,5 @@ pub mod Few
 pub mod Found
 pub mod Spelt
 pub mod ReadBack
+pub mod Stays
 pub mod Cases

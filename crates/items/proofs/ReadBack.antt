@@ -23,7 +23,7 @@ use Rattle.items.proofs.Found.{goes-on, inner, begun, data-body, list-b
 use Rattle.items.proofs.Spelt.{length-in-bytes, what-follows, room, head-is}
 
 -- none of the five applies
-none-refused : {a b c d e : Bool} → a ≡ false → b ≡ false → c ≡ false → d ≡ false → e ≡ false → lowest a b c d e ≡ 0
+pub none-refused : {a b c d e : Bool} → a ≡ false → b ≡ false → c ≡ false → d ≡ false → e ≡ false → lowest a b c d e ≡ 0
 unfolding lowest
 none-refused p q r s t = rw (p, q, r, s, t)
 
@@ -40,7 +40,8 @@ pub record AllBack (xs : Items (List ℕ)) (m : List ℕ) (at count size : ℕ) 
   pub begins : r .count ≡ count + countIn xs
   pub trees : dataIn (gathered (r .found)) m ≡ xs
 
-module _ (m : List ℕ) (at code k n left count : ℕ) (rest : List ℕ) (e : drop at m ≡ heading code k n ++ rest) (l : k ≤ 3) (p : 1 ≤ k) (f : n < 256 ^ k)
+module _ (m : List ℕ) (at code k n left count : ℕ) (rest : List ℕ) (e : drop at m ≡ heading code k n ++ rest) (l : k ≤ 3) (p : 1 ≤ k)
+    (f : n < 256 ^ k)
     (known : eqb (sizeOf code) 0 ≡ false) (even : uneven n (sizeOf code) ≡ false) (few : count < 128) where
   abbrev h : Head
   h = record { code = code; lengths = k; body = at + 1 + k; many = n }
@@ -104,8 +105,8 @@ module _ (choice : Choice) (fits : Fits choice) (m : List ℕ) where
   list-back : (xs : Items (List ℕ)) (left at count : ℕ) (post : List ℕ) → drop at m ≡ text (list xs) choice count ++ post
       → length (inOrder xs) < 2 ^ 24 → count < 128
       → ((from : ℕ) → drop from m ≡ textIn xs choice (count + 1) ++ post
-          → AllBack xs m from (count + 1) (length (textIn xs choice (count + 1)))
-          (readMany (readItem left m) (length (inOrder xs)) from (count + 1)))
+      → AllBack xs m from (count + 1) (length (textIn xs choice (count + 1)))
+      (readMany (readItem left m) (length (inOrder xs)) from (count + 1)))
       → Back (list xs) m at count (length (text (list xs) choice count)) (readItem (suc left) m at count)
   unfolding text countOf dataOf
   list-back xs left at count post e s few all =
@@ -133,7 +134,8 @@ module _ (choice : Choice) (fits : Fits choice) (m : List ℕ) where
   unfolding countIn dataIn gathered
   more-back x xs left n at count size rest b a =
       let f = readItem left m in
-      let c : AllBack xs m (at + size) (count + countOf x) rest (readMany f n (f at count .at) (f at count .count)) = rw (b .ends, b .begins) a in
+      let c : AllBack xs m (at + size) (count + countOf x) rest (readMany f n (f at count .at) (f at count .count)) = rw
+      (b .ends, b .begins) a in
       rw (goes-on f n at count (eq-eqb _ 0 (b .accepted)))
       (record {
         accepted = c .accepted;
@@ -148,6 +150,7 @@ module _ (choice : Choice) (fits : Fits choice) (m : List ℕ) where
 
   mutual
     unfolding text textIn within withinAll countOf countIn inOrder
+
     pub item-back : (x : Item (List ℕ)) (left at count : ℕ) (post : List ℕ) → drop at m ≡ text x choice count ++ post
         → within x left ≡ true → count + countOf x ≤ 128 → Back x m at count (length (text x choice count)) (readItem left m at count)
     item-back (leaf code bytes) left at count post e w few = leaf-back code bytes left at count post e w (omega arith)
@@ -178,7 +181,8 @@ pub read-back : (choice : Choice) → Fits choice → (x : Item (List ℕ)) → 
 read-back choice fits x w few post = item-back choice fits (text x choice 0 ++ post) x 6 0 0 post refl w (omega arith)
 
 -- different trees have different texts, under any choice of length bytes
-pub one-tree : (c d : Choice) → Fits c → Fits d → (x y : Item (List ℕ)) → within x 6 ≡ true → within y 6 ≡ true → countOf x ≤ 128 → countOf y ≤ 128
+pub one-tree : (c d : Choice) → Fits c → Fits d → (x y : Item (List ℕ)) → within x 6 ≡ true → within y 6 ≡ true → countOf x ≤ 128
+    → countOf y ≤ 128
     → text x c 0 ≡ text y d 0 → x ≡ y
 one-tree c d f g x y v w i j e =
     let a = read-back c f x v i [] .tree in

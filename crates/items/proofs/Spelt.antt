@@ -1,19 +1,14 @@
 -- What stands at a position: the head of an item that is written there.
-use Prim.Native.Nat.{ℕ, zero, suc, _+_, _*_, _/_, _%_, _-_, _^_, _≤_, _<_}
+use Prim.Native.Nat.{ℕ, zero, suc, _+_, _*_, _/_, _%_, _^_, _≤_, _<_}
 use native.Mathlib.Omega.{arith}
-use native.Mathlib.Nat.{pow-suc, div-lt-iff-lt-mul, div-add-mod', zero-add, add-zero}
-use native.Mathlib.Numerals.{add-one}
+use native.Mathlib.Nat.{pow-suc, zero-add, add-zero}
 use mathlib.Core.Path.{_≡_, refl, sym, ap, ap₂, _∙_}
-use mathlib.Core.Bool.{Bool, true, false, not, cond, _&&_, _||_}
-use mathlib.Core.List.{List, [], _∷_, _++_, append-assoc}
-use lib.ListN.{length, getD, take, drop, length-append, length-drop}
+use mathlib.Core.List.{List, _∷_, _++_, append-assoc}
+use lib.ListN.{length, getD, drop, length-append, length-drop}
 use lib.Seq.{getD-drop, getD-at, drop-drop, drop-at}
-use lib.Dec.{eqb, leb, ltb}
-use borrow.Author.Tests.{le-ltb, lt-leb, ne-eqb}
-use Rattle.items.specs.Formats.{LIST, sizeOf, uneven}
-use Rattle.items.specs.Heads.{numberAt, headAt, isList, refusalOf, lowest}
+use borrow.Author.Tests.{lt-leb}
+use Rattle.items.specs.Heads.{numberAt, headAt}
 use Rattle.items.specs.Written.{inBytes, heading}
-use Rattle.items.specs.declared.head.Head.{Head}
 
 pub length-in-bytes : (k n : ℕ) → length (inBytes k n) ≡ k
 unfolding inBytes
@@ -33,7 +28,13 @@ number-back zero n rest h = omega arith
 number-back (suc k) n rest h =
     let q : n < 256 ^ k * 256 = rw (pow-suc 256 k) at h in
     let l : n / 256 < 256 ^ k = omega arith in
-    rw (append-assoc, zero-add k, number-back k (n / 256) (n % 256 ∷ rest) l, getD-at (inBytes k (n / 256)) (n % 256) rest 0 k (length-in-bytes k (n / 256)))
+    rw (
+      append-assoc,
+      zero-add k,
+      number-back k (n / 256) (n % 256 ∷ rest) l,
+      getD-at (inBytes k (n / 256)) (n % 256) rest 0 k
+          (length-in-bytes k (n / 256)),
+    )
     (omega arith)
 
 -- ── The head that is written at a position ──

@@ -6,10 +6,10 @@ use lib.ListN.{replicate}
 use lib.Dec.{eqb}
 use Rattle.lists.specs.Lists.{any}
 use Rattle.items.specs.Formats.{LIST, BINARY, BOOLEAN, ASCII, I8, I1, I2, I4, F8, F4, U8, U1, U2, U4}
-use Rattle.items.specs.Tree.{Item, Items, _then_}
+use Rattle.items.specs.Tree.{Item, _then_}
 use Rattle.items.specs.Tree.Item.{leaf, list}
 use Rattle.items.specs.Tree.Items.{none}
-use Rattle.items.specs.Reading.{Reading, readMessage, walked}
+use Rattle.items.specs.Reading.{readMessage, walked}
 use Rattle.items.specs.declared.head.Span.{Span}
 
 -- A message: what it is refused with, where, after how many items, and whether each number found holds one value.

@@ -1,7 +1,7 @@
 -- The formats of SEMI E5 that are accepted. A code is six bits, written in octal as there; every other code is unknown.
 use Prim.Native.Nat.{ℕ, _%_}
 use mathlib.Core.Bool.{Bool, false, not, cond, _&&_, _||_}
-use lib.Dec.{eqb, leb}
+use lib.Dec.{eqb}
 
 abbrev pub LIST : ℕ
 LIST = 0o00

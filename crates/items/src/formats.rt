@@ -1,6 +1,5 @@
 // The formats that are accepted, by code: the size of an element, and which hold one value.
 ghost use mathlib.Core.Path.{_≡_};
-ghost use Prim.Native.Nat.{_≤_};
 ghost use Rattle.items.specs.Formats.{sizeOf, isNumber, holdsOne, uneven};
 
 pub const LIST: usize = 0o00;

@@ -1,7 +1,7 @@
 // The reader of items. `item` and `list` call each other: the lists that may still be opened fall from item to list, the
 // elements that are left from turn to turn.
 ghost use mathlib.Core.Path.{_≡_};
-ghost use Rattle.items.specs.Reading.{readMany, readItem, readMessage, walked, walkedAll};
+ghost use Rattle.items.specs.Reading.{readMany, readItem, walked, walkedAll};
 use crate::formats::*;
 use crate::head::*;
 

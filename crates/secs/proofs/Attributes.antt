@@ -1,15 +1,15 @@
 -- The attributes of an accepted message: every one a pair, and a first one SlotMap.
 use Prim.Native.Nat.{ℕ, zero, suc, _+_}
 use native.Mathlib.Omega.{arith}
-use mathlib.Core.Path.{_≡_, refl, sym, ap, _∙_}
-use mathlib.Core.Bool.{Bool, true, false, not, _&&_, _||_}
+use mathlib.Core.Path.{_≡_, refl, sym, _∙_}
+use mathlib.Core.Bool.{true, false, _&&_}
 use mathlib.Core.List.{List, [], _∷_, map}
 use lib.Dec.{eqb}
 use borrow.Author.Tests.{eqb-true, ne-eqb}
 use Rattle.lists.specs.Lists.{every, sameList}
 use Rattle.lists.proofs.Bools.{and-l, and-r}
 use Rattle.items.specs.Formats.{LIST, ASCII}
-use Rattle.items.specs.Tree.{Item, elements, codeOf, spanOf}
+use Rattle.items.specs.Tree.{Item, elements, spanOf}
 use Rattle.items.specs.Heads.{headAt}
 use Rattle.items.specs.Reading.{Reading, readMany, readItem, readMessage}
 use Rattle.items.specs.declared.head.Head.{Head}

@@ -1,14 +1,13 @@
 -- The five parts of an accepted message: each begins where the one before it ends.
-use Prim.Native.Nat.{ℕ, zero, suc, _+_}
-use mathlib.Core.Path.{_≡_, refl, sym, ap, _∙_}
-use mathlib.Core.Bool.{Bool, true, false, cond, _&&_}
+use Prim.Native.Nat.{ℕ}
+use mathlib.Core.Path.{_≡_, refl, sym, _∙_}
+use mathlib.Core.Bool.{Bool, true, false, _&&_}
 use mathlib.Core.List.{List, [], _∷_}
 use lib.Dec.{eqb}
 use borrow.Author.Tests.{eqb-true}
-use Rattle.lists.specs.Lists.{sameList}
 use Rattle.lists.proofs.Bools.{clash, and-l, and-r}
 use Rattle.items.specs.Formats.{LIST, ASCII, U1}
-use Rattle.items.specs.Tree.{Item, elements, codeOf}
+use Rattle.items.specs.Tree.{Item, elements}
 use Rattle.items.specs.Heads.{headAt}
 use Rattle.items.specs.Reading.{Reading, readMany, readItem, readMessage}
 use Rattle.items.specs.declared.head.Span.{Span}

@@ -1,21 +1,21 @@
 -- In a message whose items were accepted, what stands at a position is what stands in the tree.
-use Prim.Native.Nat.{ℕ, zero, suc, _+_, _≤_}
+use Prim.Native.Nat.{ℕ, zero, suc, _+_}
 use mathlib.Core.Path.{_≡_, refl, sym, ap, ap₂, _∙_}
-use mathlib.Core.Bool.{Bool, true, false, cond, _&&_}
-use mathlib.Core.List.{List, [], _∷_, map}
+use mathlib.Core.Bool.{Bool, true, false, _&&_}
+use mathlib.Core.List.{List, _∷_, map}
 use lib.ListN.{length, getD}
-use lib.Dec.{eqb, leb}
+use lib.Dec.{eqb}
 use borrow.Author.Tests.{eqb-true, le-leb}
 use Rattle.lists.specs.Lists.{every, sameList}
 use Rattle.lists.proofs.Bools.{clash, and-l, and-r}
 use Rattle.items.specs.Formats.{LIST, ASCII, U1}
-use Rattle.items.specs.Tree.{Item, elements, codeOf, spanOf, bytesAt, nothing}
+use Rattle.items.specs.Tree.{Item, elements, spanOf, nothing}
 use Rattle.items.specs.Heads.{headAt}
 use Rattle.items.specs.Reading.{readMany, readItem}
 use Rattle.items.specs.declared.head.Span.{Span}
 use Rattle.items.proofs.Found.{next, many-found, code-found, data-found, list-found}
-use Rattle.secs.specs.Shape.{part, isListOf, isText, isU1, isPair, textOf, byteOf}
-use Rattle.secs.specs.InPlace.{codeAt, pairAt, fitsAt, eachAt, namedAt, codesAt}
+use Rattle.secs.specs.Shape.{isListOf, isU1, isPair, textOf, byteOf}
+use Rattle.secs.specs.InPlace.{pairAt, fitsAt, eachAt, namedAt, codesAt}
 
 -- the second of two tests is looked at where the first holds
 pub and-under : {a a′ b b′ : Bool} → a ≡ a′ → (a′ ≡ true → b ≡ b′) → (a && b) ≡ (a′ && b′)

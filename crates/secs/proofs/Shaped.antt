@@ -3,22 +3,22 @@ use Prim.Native.Nat.{ℕ, zero, suc, _+_, _≤_}
 use native.Mathlib.Omega.{arith}
 use mathlib.Core.Path.{_≡_, refl, sym, ap, _∙_}
 use mathlib.Core.Bool.{Bool, true, false, not, cond, _&&_, _||_}
-use mathlib.Core.List.{List, [], _∷_, map}
+use mathlib.Core.List.{List, []}
 use lib.ListN.{length, getD, take, replicate}
 use lib.Seq.{take-all}
 use lib.Dec.{eqb}
 use Rattle.lists.specs.Lists.{every}
 use Rattle.lists.proofs.Bools.{clash, and-l, and-r}
-use Rattle.rules.specs.Seen.{Input, inputOf}
+use Rattle.rules.specs.Seen.{inputOf}
 use Rattle.maps.specs.Expected.{carries}
-use Rattle.items.specs.Tree.{Item, elements, bytesAt, single, spanOf}
+use Rattle.items.specs.Tree.{Item, elements, bytesAt, single}
 use Rattle.items.specs.Heads.{headAt}
 use Rattle.items.specs.Reading.{readMessage}
 use Rattle.items.specs.declared.head.Span.{Span}
 use Rattle.items.proofs.Found.{data-found}
 use Rattle.secs.specs.Shape.{textOf, hasParts, isPair, carrierName, port, attributes, hasMap, mapOf, isMap, rowIn, inShape, byteOf}
 use Rattle.secs.specs.Request.{portIn, codesIn, inputIn, inputFrom}
-use Rattle.secs.specs.InPlace.{partsAt, kindsAt, shapeAt, rowAt, valueAt, hasMapAt, isMapAt, codesAt, takenAt}
+use Rattle.secs.specs.InPlace.{partsAt, shapeAt, rowAt, valueAt, hasMapAt, isMapAt, codesAt, takenAt}
 use Rattle.secs.proofs.Placed.{and-under, span-is}
 use Rattle.secs.proofs.Five.{action′, name′, port′, Five, five, Kinds, kinds, kinds-is, row-is}
 use Rattle.secs.proofs.Attributes.{list′, Pair, first-pair, pairs-is, has-map-is, map-is, codes-are}

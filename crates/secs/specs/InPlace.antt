@@ -10,7 +10,6 @@ use Rattle.items.specs.Formats.{LIST, ASCII, U1}
 use Rattle.items.specs.Tree.{bytesAt}
 use Rattle.items.specs.Heads.{headAt}
 use Rattle.items.specs.Reading.{readItem}
-use Rattle.items.specs.declared.head.Head.{Head}
 use Rattle.secs.specs.Texts.{Bind, CarrierNotification, ProceedWithCarrier, CancelCarrier, SlotMap}
 use Rattle.secs.specs.Shape.{unsigned}
 use Rattle.secs.specs.declared.parts.Parts.{Parts}

@@ -1,7 +1,7 @@
 -- What a message asks of the tool: a refusal, or an input.
 use Prim.Native.Nat.{ℕ, _+_, _≤_}
 use mathlib.Core.Path.{_≡_}
-use mathlib.Core.Bool.{Bool, not, cond, _&&_}
+use mathlib.Core.Bool.{cond, _&&_}
 use mathlib.Core.List.{List, [], map}
 use lib.ListN.{length, take}
 use lib.Dec.{eqb, ltb}

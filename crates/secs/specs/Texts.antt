@@ -1,6 +1,6 @@
 -- Texts in ASCII: the actions are the service names of rows 1, 3, 5 and 6.
 use Prim.Native.Nat.{ℕ}
-use mathlib.Core.Bool.{Bool, cond}
+use mathlib.Core.Bool.{cond}
 use mathlib.Core.List.{List, [], _∷_}
 use Rattle.lists.specs.Lists.{sameList}
 

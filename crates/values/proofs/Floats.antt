@@ -1,12 +1,11 @@
 -- A pattern is a NaN's where its digits lie above an infinity's; off a NaN the bits come back.
-use mathlib.Core.Path.{_≡_, refl, sym, ap, subst, _∙_}
-use Prim.Native.Nat.{ℕ, _*_, _%_, _<_, _≤_, _^_}
-use mathlib.Core.Bool.{Bool, true, false, not}
-use lib.Dec.{T, ltb}
+use mathlib.Core.Path.{_≡_, sym, _∙_}
+use Prim.Native.Nat.{ℕ, _*_, _%_, _<_, _≤_}
+use mathlib.Core.Bool.{true, false, not}
+use lib.Dec.{T}
 use borrow.Author.Tests.{lt-ltb, le-ltb}
-use lib.Ieee.{Float, nan, inf, fin, Format, hid, ones, top, ofBits, toBits, nanBits, isNan, ne}
+use lib.Ieee.{Format, hid, ones, top, ofBits, toBits, nanBits}
 use lib.Ieee.Bits.{nanBits-above, nanBits-is, toBits-ofBits}
-use lib.Ieee.Compare.{differs-from-itself, nan-differs}
 
 module _ (f : Format) (b : ℕ) where
   pub nan-bits : ones f * hid f < b % top f → nanBits f b ≡ true

@@ -5,8 +5,8 @@ use mathlib.Core.List.{List}
 use lib.ListN.{length}
 use lib.IntN.{ℤ, pos, negsuc}
 use lib.Dec.{eqb, leb, ltb}
-use lib.Ieee.{Float, binary32, binary64, ofBits, toBits, nanBits}
-use Rattle.items.specs.Formats.{LIST, BINARY, BOOLEAN, ASCII, I8, I1, I2, I4, F8, F4, U8, U1, U2, U4, sizeOf}
+use lib.Ieee.{binary32, binary64, ofBits, toBits, nanBits}
+use Rattle.items.specs.Formats.{BINARY, BOOLEAN, ASCII, I8, I1, I2, I4, F8, F4, U8, U1, U2, U4, sizeOf}
 use Rattle.items.specs.Tree.{Item}
 use Rattle.items.specs.Heads.{numberAt}
 use Rattle.items.specs.declared.head.Span.{Span}
