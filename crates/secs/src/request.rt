@@ -112,7 +112,8 @@ pub fn request_in(msg: &[u8]) -> Request
     let p = parts_at(msg);
     let shape = shape_at(msg, p);
     let row = row_at(msg, p.action);
-    if shape & w.single & !(row == 0) {
+    let single = w.single;
+    if shape & single & !(row == 0) {
         taken(msg, p, row, w.count)
     } else {
         refused(26, w.count)

@@ -31,7 +31,8 @@ fn f4(bits: u32) -> Value
     if 0x7F80_0000 < bits % 0x8000_0000 {
         Value::Nan4(bits)
     } else {
-        Value::F4(f32::from_bits(bits))
+        let x = f32::from_bits(bits);
+        Value::F4(x)
     }
 }
 
@@ -42,7 +43,8 @@ fn f8(bits: u64) -> Value
     if 0x7FF0_0000_0000_0000 < bits % 0x8000_0000_0000_0000 {
         Value::Nan8(bits)
     } else {
-        Value::F8(f64::from_bits(bits))
+        let x = f64::from_bits(bits);
+        Value::F8(x)
     }
 }
 

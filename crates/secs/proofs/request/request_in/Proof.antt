@@ -17,7 +17,7 @@ returns-2 c =
 
 returns-3 : tie.Need-returns-3
 returns-3 c =
-    let r = c .before .before .before in
+    let r = c .before .before in
     let p = r .before .before in
     let i = p .before .before .before in
     let w = i .before .before .read-message in
@@ -28,7 +28,7 @@ returns-3 c =
 
 returns-4 : tie.Need-returns-4
 returns-4 c =
-    let r = c .before .before .before in
+    let r = c .before .before in
     let p = r .before .before in
     let i = p .before .before .before in
     let w = i .before .before .read-message in
