@@ -47,11 +47,11 @@ module _ (m : List ℕ) (at count : ℕ) (h : Head) (e : h ≡ headAt m at) (r :
 abbrev pub joined : Bool → Walk → Walk
 joined single w = record { refusal = w .refusal; at = w .at; count = w .count; single = single && w .single }
 
-and-assoc : (a b c : Bool) → (a && (b && c)) ≡ ((a && b) && c)
+pub and-assoc : (a b c : Bool) → (a && (b && c)) ≡ ((a && b) && c)
 and-assoc true b c = refl
 and-assoc false b c = refl
 
-and-true : (a : Bool) → a ≡ (a && true)
+pub and-true : (a : Bool) → a ≡ (a && true)
 and-true true = refl
 and-true false = refl
 

@@ -53,6 +53,9 @@ sizeOf code =
     (cond (eqb code I4 || eqb code F4 || eqb code U4) 4
     (cond (eqb code I8 || eqb code F8 || eqb code U8) 8 0)))
 
+abbrev pub isUnsigned : ℕ → Bool
+isUnsigned code = eqb code U1 || eqb code U2 || eqb code U4 || eqb code U8
+
 -- a number or boolean: neither list nor binary nor text
 unfoldable pub isNumber : ℕ → Bool
 isNumber code = not (eqb code LIST || eqb code BINARY || eqb code ASCII) && not (eqb (sizeOf code) 0)

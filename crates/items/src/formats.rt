@@ -1,6 +1,6 @@
 // The formats that are accepted, by code: the size of an element, and which hold one value.
 ghost use mathlib.Core.Path.{_≡_};
-ghost use Rattle.items.specs.Formats.{sizeOf, isNumber, holdsOne, uneven};
+ghost use Rattle.items.specs.Formats.{sizeOf, isUnsigned, isNumber, holdsOne, uneven};
 
 pub const LIST: usize = 0o00;
 
@@ -56,6 +56,12 @@ pub fn size_of(code: usize) -> usize
         return 8;
     }
     0
+}
+
+pub fn is_unsigned(code: usize) -> bool
+    ensures { λ r. ⌜ r ≡ isUnsigned code ⌝ }
+{
+    (code == U1) | (code == U2) | (code == U4) | (code == U8)
 }
 
 fn is_number(code: usize) -> bool

@@ -6,14 +6,14 @@ use mathlib.Core.List.{List, [], _∷_}
 use lib.Dec.{eqb}
 use borrow.Author.Tests.{eqb-true}
 use Rattle.lists.proofs.Bools.{clash, and-l, and-r}
-use Rattle.items.specs.Formats.{LIST, ASCII, U1}
+use Rattle.items.specs.Formats.{LIST, ASCII, U1, isUnsigned}
 use Rattle.items.specs.Tree.{Item, elements}
 use Rattle.items.specs.Heads.{headAt}
 use Rattle.items.specs.Reading.{Reading, readMany, readItem, readMessage}
 use Rattle.items.specs.declared.head.Span.{Span}
 use Rattle.items.proofs.Found.{next, code-found, list-found}
 use Rattle.secs.specs.Texts.{Bind, CarrierNotification, ProceedWithCarrier, CancelCarrier, rowOf}
-use Rattle.secs.specs.Shape.{isListOf, unsigned, hasParts, action, rowIn}
+use Rattle.secs.specs.Shape.{isListOf, hasParts, action, rowIn}
 use Rattle.secs.specs.InPlace.{codeAt, partsAt, kindsAt, rowAt}
 use Rattle.secs.proofs.Placed.{list-of-is, other-code, named-is}
 
@@ -110,7 +110,7 @@ module _ (m : List ℕ) where
   pub kinds : kindsAt m (partsAt m) ≡ true → Kinds
   unfolding kindsAt partsAt
   kinds t =
-      let s = all-six (isFive m) (unsigned (codeAt m (headAt m 0 .body))) (eqb (codeAt m (id′ m .at)) ASCII)
+      let s = all-six (isFive m) (isUnsigned (codeAt m (headAt m 0 .body))) (eqb (codeAt m (id′ m .at)) ASCII)
       (eqb (codeAt m (action′ m .at)) ASCII) (eqb (codeAt m (name′ m .at)) U1) (eqb (codeAt m (port′ m .at)) LIST) t in
       record {
         five = s .0;

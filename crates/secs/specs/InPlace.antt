@@ -6,12 +6,11 @@ use lib.ListN.{length, getD, replicate}
 use lib.Dec.{eqb, leb}
 use Rattle.lists.specs.Lists.{sameList}
 use Rattle.maps.specs.Expected.{carries}
-use Rattle.items.specs.Formats.{LIST, ASCII, U1}
+use Rattle.items.specs.Formats.{LIST, ASCII, U1, isUnsigned}
 use Rattle.items.specs.Tree.{bytesAt}
 use Rattle.items.specs.Heads.{headAt}
 use Rattle.items.specs.Reading.{readItem}
 use Rattle.secs.specs.Texts.{Bind, CarrierNotification, ProceedWithCarrier, CancelCarrier, SlotMap}
-use Rattle.secs.specs.Shape.{unsigned}
 use Rattle.secs.specs.declared.parts.Parts.{Parts}
 use Rattle.secs.specs.declared.request.Request.{Request}
 
@@ -38,7 +37,7 @@ codeAt m at = headAt m at .code
 unfoldable pub kindsAt : List ℕ → Parts → Bool
 kindsAt m p =
     p .five
-    && unsigned (codeAt m (p .id))
+    && isUnsigned (codeAt m (p .id))
     && eqb (codeAt m (p .action)) ASCII
     && eqb (codeAt m (p .name)) ASCII
     && eqb (codeAt m (p .port)) U1

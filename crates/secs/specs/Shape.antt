@@ -5,7 +5,7 @@ use mathlib.Core.List.{List}
 use lib.ListN.{length, getD}
 use lib.Dec.{eqb}
 use Rattle.lists.specs.Lists.{every, sameList}
-use Rattle.items.specs.Formats.{LIST, ASCII, U1, U2, U4, U8}
+use Rattle.items.specs.Formats.{LIST, ASCII, U1, isUnsigned}
 use Rattle.items.specs.Tree.{Item, elements, codeOf, spanOf, bytesAt, nothing, single}
 use Rattle.items.specs.declared.head.Span.{Span}
 use Rattle.secs.specs.Texts.{SlotMap, rowOf}
@@ -25,10 +25,6 @@ isText x = eqb (codeOf x) ASCII
 
 abbrev pub isU1 : Item Span → Bool
 isU1 x = eqb (codeOf x) U1
-
--- any unsigned format
-abbrev pub unsigned : ℕ → Bool
-unsigned code = eqb code U1 || eqb code U2 || eqb code U4 || eqb code U8
 
 abbrev pub textOf : List ℕ → Item Span → List ℕ
 textOf m x = bytesAt m (spanOf x)
@@ -56,7 +52,7 @@ attributes x = part 4 x
 unfoldable pub hasParts : Item Span → Bool
 hasParts x =
     isListOf 5 x
-    && unsigned (codeOf (dataId x))
+    && isUnsigned (codeOf (dataId x))
     && isText (action x)
     && isText (carrierName x)
     && isU1 (port x)

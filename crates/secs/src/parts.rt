@@ -1,7 +1,6 @@
 // The parts of S3F17 by position, and whether they have its shape: for a message whose items were all accepted.
 ghost use mathlib.Core.Path.{_≡_};
 ghost use Prim.Native.Nat.{_≤_};
-ghost use Rattle.secs.specs.Shape.{unsigned};
 ghost use Rattle.secs.specs.InPlace.{partsAt, codeAt, kindsAt, pairAt, fitsAt, eachAt, nameAt, valueAt, hasMapAt, isMapAt, shapeAt};
 use crate::text::*;
 use items::formats::*;
@@ -20,6 +19,7 @@ pub struct Parts {
     pub count: usize,
 }
 
+// The outermost list is open, so that five more may be, and one item has begun.
 pub fn parts_at(msg: &[u8]) -> Parts
     ensures { λ r. ⌜ r ≡ partsAt (now (msg .entry)) ⌝ }
     ensures { λ r. ⌜ r .count ≤ 128 ⌝ }
@@ -47,12 +47,6 @@ fn code_at(msg: &[u8], at: usize) -> usize
     h.code
 }
 
-fn unsigned(code: usize) -> bool
-    ensures { λ r. ⌜ r ≡ unsigned code ⌝ }
-{
-    (code == U1) | (code == U2) | (code == U4) | (code == U8)
-}
-
 // An unsigned number, two texts, a U1 and a list.
 fn kinds_at(msg: &[u8], p: Parts) -> bool
     ensures { λ r. ⌜ r ≡ kindsAt (now (msg .entry)) p ⌝ }
@@ -62,7 +56,7 @@ fn kinds_at(msg: &[u8], p: Parts) -> bool
     let name = code_at(msg, p.name);
     let port = code_at(msg, p.port);
     let pairs = code_at(msg, p.pairs);
-    p.five & unsigned(id) & (action == ASCII) & (name == ASCII) & (port == U1) & (pairs == LIST)
+    p.five & is_unsigned(id) & (action == ASCII) & (name == ASCII) & (port == U1) & (pairs == LIST)
 }
 
 // A list of two, a text first.

@@ -4,8 +4,8 @@ use mathlib.Core.Path.{_≡_}
 use mathlib.Core.Bool.{true, false}
 use lib.IntN.{ℤ}
 use borrow.Author.Tests.{eq-eqb, ne-eqb}
-use Rattle.items.specs.Formats.{BOOLEAN, F4, F8}
-use Rattle.values.specs.Values.{f4Of, f8Of, isUnsigned, isSigned, halfOf, signedOf, numberOf}
+use Rattle.items.specs.Formats.{BOOLEAN, F4, F8, isUnsigned}
+use Rattle.values.specs.Values.{f4Of, f8Of, isSigned, halfOf, signedOf, numberOf}
 use Rattle.values.specs.declared.value.Value.{Value}
 use Rattle.values.specs.declared.value.Value.the-variants as held
 

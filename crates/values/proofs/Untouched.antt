@@ -11,10 +11,10 @@ use lib.Dec.{eqb, leb, ltb}
 use borrow.Author.Tests.{eqb-true, eqb-false, ltb-false}
 use lib.Ieee.{binary32, binary64, nanBits, ofBits}
 use Rattle.lists.proofs.Bools.{clash, and-l}
-use Rattle.items.specs.Formats.{BINARY, BOOLEAN, ASCII, F8, F4, sizeOf}
+use Rattle.items.specs.Formats.{BINARY, BOOLEAN, ASCII, F8, F4, sizeOf, isUnsigned}
 use Rattle.items.specs.Heads.{numberAt}
 use Rattle.items.specs.declared.head.Span.{Span}
-use Rattle.values.specs.Values.{f4Of, f8Of, signedOf, unsignedOf, isUnsigned, isSigned, halfOf, numberOf, isOne, valueIn}
+use Rattle.values.specs.Values.{f4Of, f8Of, signedOf, unsignedOf, isSigned, halfOf, numberOf, isOne, valueIn}
 use Rattle.values.specs.Values.{formatOf, bitsOf}
 use Rattle.values.specs.declared.value.Value.{Value}
 use Rattle.values.specs.declared.value.Value.the-variants as held

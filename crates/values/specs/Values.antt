@@ -6,7 +6,7 @@ use lib.ListN.{length}
 use lib.IntN.{ℤ, pos, negsuc}
 use lib.Dec.{eqb, leb, ltb}
 use lib.Ieee.{binary32, binary64, ofBits, toBits, nanBits}
-use Rattle.items.specs.Formats.{BINARY, BOOLEAN, ASCII, I8, I1, I2, I4, F8, F4, U8, U1, U2, U4, sizeOf}
+use Rattle.items.specs.Formats.{BINARY, BOOLEAN, ASCII, I8, I1, I2, I4, F8, F4, sizeOf, isUnsigned}
 use Rattle.items.specs.Tree.{Item}
 use Rattle.items.specs.Heads.{numberAt}
 use Rattle.items.specs.declared.head.Span.{Span}
@@ -23,9 +23,6 @@ f8Of bits = cond (nanBits binary64 bits) (held.Nan8 bits) (held.F8 (ofBits binar
 -- two's complement, where half is 2 to the bits less one
 unfoldable pub signedOf : ℕ → ℕ → ℤ
 signedOf bits half = cond (ltb bits half) (pos bits) (negsuc (half - 1 - (bits - half)))
-
-abbrev pub isUnsigned : ℕ → Bool
-isUnsigned code = eqb code U1 || eqb code U2 || eqb code U4 || eqb code U8
 
 abbrev pub isSigned : ℕ → Bool
 isSigned code = eqb code I1 || eqb code I2 || eqb code I4 || eqb code I8

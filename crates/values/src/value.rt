@@ -3,7 +3,7 @@ ghost use mathlib.Core.Path.{_≡_};
 ghost use Prim.Native.Nat.{_<_, _^_, _≤_, _+_};
 ghost use Rattle.items.specs.declared.head.Span.{Span};
 ghost use Rattle.items.specs.Formats.{sizeOf};
-ghost use Rattle.values.specs.Values.{f4Of, f8Of, signedOf, halfOf, isUnsigned, isSigned, numberOf, valueIn};
+ghost use Rattle.values.specs.Values.{f4Of, f8Of, signedOf, halfOf, isSigned, numberOf, valueIn};
 use items::formats::*;
 use items::head::*;
 
@@ -75,12 +75,6 @@ fn half_of(code: usize) -> u64
         return 0x8000_0000;
     }
     0x8000_0000_0000_0000
-}
-
-fn is_unsigned(code: usize) -> bool
-    ensures { λ r. ⌜ r ≡ isUnsigned code ⌝ }
-{
-    (code == U1) | (code == U2) | (code == U4) | (code == U8)
 }
 
 fn is_signed(code: usize) -> bool
