@@ -2,3 +2,4 @@ pub mod Floats
 pub mod Sizes
 pub mod Chosen
 pub mod Untouched
+pub mod Cases
