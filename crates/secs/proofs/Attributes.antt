@@ -113,6 +113,11 @@ module _ (m : List ℕ) (ok : readMessage m .refusal ≡ 0) (k : Kinds m) where
       let two = list-of-is m 3 (key′ m .at) (key′ m .count) (p .value) 25 ∙ t in
       list-found m 3 (key′ m .at) (key′ m .count) (p .value) (and-l (eqb (headAt m (key′ m .at) .code) LIST) _ two)
 
+  value-many : (p : Pair m) → isListOf 25 (value′ m .found) ≡ true → headAt m (key′ m .at) .many ≡ 25
+  value-many p t =
+      let two = list-of-is m 3 (key′ m .at) (key′ m .count) (p .value) 25 ∙ t in
+      eqb-true _ 25 (and-r (eqb (headAt m (key′ m .at) .code) LIST) _ two)
+
   -- which is a list of 25 U1
   pub map-is : Pair m → isMapAt m (valueAt m (port′ m .at)) (port′ m .count + 4) ≡ isMap (mapOf (readMessage m .found))
   unfolding isMapAt isMap
@@ -123,7 +128,8 @@ module _ (m : List ℕ) (ok : readMessage m .refusal ≡ 0) (k : Kinds m) where
       (and-under (list-of-is m 3 (key′ m .at) (key′ m .count) (p .value) 25)
       (λ t.
       let l = value-list p t in
-      rw (l .elements) (each-is m false 1 (headAt m (key′ m .at) .many) (headAt m (key′ m .at) .body) (key′ m .count + 1) (l .accepted))))
+      rw (l .elements, ← (value-many p t))
+      (each-is m false 1 (headAt m (key′ m .at) .many) (headAt m (key′ m .at) .body) (key′ m .count + 1) (l .accepted))))
 
   -- its codes
   pub codes-are : Pair m → isMap (mapOf (readMessage m .found)) ≡ true

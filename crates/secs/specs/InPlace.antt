@@ -81,7 +81,7 @@ hasMapAt m pairs = not (eqb (headAt m pairs .many) 0) && namedAt m (nameAt m pai
 -- a list of 25 U1, where so many items have begun before its elements
 unfoldable pub isMapAt : List ℕ → ℕ → ℕ → Bool
 isMapAt m at count =
-    eqb (headAt m at .code) LIST && eqb (headAt m at .many) 25 && eachAt m false 2 (headAt m at .many) (headAt m at .body) count
+    eqb (headAt m at .code) LIST && eqb (headAt m at .many) 25 && eachAt m false 2 25 (headAt m at .body) count
 
 unfoldable pub shapeAt : List ℕ → Parts → Bool
 shapeAt m p =

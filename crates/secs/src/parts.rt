@@ -127,19 +127,23 @@ fn is_map(msg: &[u8], at: usize, begun: usize) -> bool
     ensures { λ r. ⌜ r ≡ isMapAt (now (msg .entry)) at begun ⌝ }
 {
     let h = head_at(msg, at);
-    let codes = each_at(msg, false, 2, h.many, h.body, begun);
+    let codes = each_at(msg, false, 2, SLOTS, h.body, begun);
     (h.code == LIST) & (h.many == SLOTS) & codes
 }
 
+// Where the kinds are others the positions mean nothing, and a length there could be anything: no loop runs over it.
 pub fn shape_at(msg: &[u8], p: Parts) -> bool
     requires { ⌜ p .count ≤ 128 ⌝ }
     ensures { λ r. ⌜ r ≡ shapeAt (now (msg .entry)) p ⌝ }
 {
     let kinds = kinds_at(msg, p);
+    if !kinds {
+        return false;
+    }
     let list = head_at(msg, p.pairs);
     let pairs = each_at(msg, true, 4, list.many, list.body, p.count + 1);
     let named = has_map(msg, p.pairs);
     let at = value_at(msg, p.pairs);
     let map = is_map(msg, at, p.count + 4);
-    kinds & pairs & (!named | map)
+    pairs & (!named | map)
 }
