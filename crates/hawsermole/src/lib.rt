@@ -3,12 +3,14 @@
 ghost use mathlib.Core.Path.{_≡_};
 ghost use mathlib.Core.Bool.{cond};
 ghost use Rattle.rules.specs.Seen.{inputOf};
+ghost use Rattle.items.specs.Reading.{readMessage};
 ghost use Rattle.names.specs.Check.{nameLength};
 ghost use Rattle.waiting.specs.Waiting.{answerIn, foundIn};
 ghost use Rattle.tool.specs.Whole.{wholeIn, soundWhole};
 ghost use Rattle.hawsermole.specs.Calls.{SetUpCall, StepCall, SecsCall};
 use bridge::bridge::bridge_step;
 use door::door::door_step;
+use items::reader::read_message;
 use names::check::name_length;
 use records::carrier::Carrier;
 use tool::whole::whole_setup;
@@ -103,4 +105,13 @@ pub extern "C" fn hm_secs_step(
 {
     let answer = bridge_step(tool, reports, message, items);
     answer as u32
+}
+
+// Where reading a message stopped: at the item that was refused, at the first byte left over, or at the end.
+#[no_mangle]
+pub extern "C" fn hm_secs_at(message: &[u8]) -> usize
+    ensures { λ r. ⌜ r ≡ readMessage (now (message .entry)) .at ⌝ }
+{
+    let w = read_message(message);
+    w.at
 }
