@@ -3,25 +3,26 @@
  * Verify the pod before you open it.
  *
  * Three steps: hm_setup once, hm_step for every input, and after each accepted input pass the reports on.
- * The rules are document 01's, with document 02's requests P1, expected maps, P4, names padded with blanks, and P2:
- * hm_waiting.
+ * A host's S3F17 goes to hm_secs_step as it came: the text is read, and what it asks for is stepped.
+ * The rules are document 01's, with document 02's requests P1, expected maps, P3, SECS-II from the host bridge,
+ * P4, names padded with blanks, and P2: hm_waiting.
  * C99, C11 and C++17.
- * Link with libhawsermole.a; see examples/firmware.c.
+ * Link with libhawsermole.a; see examples/firmware.c and examples/host_bridge.c.
  *
  * WHAT THE LIBRARY ANSWERS FOR
- * Every input is answered. The number, the port and the value may be any 32-bit number, the name and the codes
- * any bytes of any length, and the tool may hold any bytes. A refused input changes nothing in the tool.
+ * Every input is answered. The number, the port and the value may be any 32-bit number, the name, the codes and a
+ * message any bytes of any length, and the tool may hold any bytes. A refused input changes nothing in the tool.
  * A tool is plain bytes without pointers: it may be copied, compared with memcmp, kept in battery-backed memory
  * and handed back after a restart. A damaged one that is no longer sound is refused, never acted on. Sound is
  * not the same as true: damage that leaves a sound tool can't be seen, so keep a checksum beside a stored one.
  *
  * WHAT THE CALLER ANSWERS FOR (nothing checks these)
  * - Every pointer is valid for the whole of what it points to, and none is NULL, also where a length is 0:
- *   HM_NOTHING, with length 0, stands for no name or no codes.
- * - The tool and the reports don't overlap, and neither overlaps the name or the codes. So don't pass a name
- *   that stands in that same tool or in those reports: copy it out first.
- * - One caller at a time for one tool, and nobody else reads or writes that tool, its reports, the name or
- *   the codes during the call. Different tools may be used at the same time: the library keeps no state.
+ *   HM_NOTHING, with length 0, stands for no name, no codes or no message.
+ * - The tool, the reports and the count of items don't overlap, and none of them overlaps the name, the codes or the
+ *   message. So don't pass a name that stands in that same tool or in those reports: copy it out first.
+ * - One caller at a time for one tool, and nobody else reads or writes that tool, its reports, the name, the codes
+ *   or the message during the call. Different tools may be used at the same time: the library keeps no state.
  * - HM_STACK_BYTES of stack are free for each call.
  * - The program is for the archive's target: x86-64 Linux, System V ABI. The archive is position independent,
  *   uses no heap and no file, and needs from the C library memcpy, memset and memcmp at most.
@@ -50,6 +51,8 @@ extern "C" {
 #define HM_NAME_BYTE_GREATEST 0x7E /* to 0x7E */
 #define HM_TEXT_BYTES 32           /* as it is sent it may have blanks at its end, up to 32 bytes in all */
 #define HM_BLANK 0x20              /* the only byte that is a blank */
+#define HM_SECS_ITEMS 128          /* items of a message */
+#define HM_SECS_DEPTH 6            /* lists of a message, one in another, the outermost at one */
 #define HM_SPARE_BYTES 991         /* bytes of a tool that hold nothing yet */
 #define HM_TOOL_BYTES 3782
 #define HM_REPORTS_BYTES 141
@@ -60,7 +63,7 @@ extern "C" {
 /* Port 0 means "not given", in the inputs whose port may be left out (2, 5 and 6). */
 #define HM_PORT_NOT_GIVEN 0
 
-/* For a name or codes of length 0. */
+/* For a name, codes or a message of length 0. */
 #define HM_NOTHING ((const uint8_t *)"")
 
 /* The inputs, and the parts that each one reads; other parts are ignored. */
@@ -105,6 +108,20 @@ enum hm_answer {
     HM_REFUSED_EXPECTED_FULL = 6,        /* 16 carriers are expected already */
     HM_REFUSED_NOT_VERIFIED = 7,         /* not verified */
     HM_REFUSED_PLACE_OR_OPENER_TAKEN = 8 /* the buffer place is taken, or the opener is in use */
+};
+
+/*
+ * What hm_secs_step answers, besides enum hm_answer, to a message that isn't the text of an S3F17: the first that is
+ * met, and the lowest at one item. Items are met in the order in which they begin, a list before its elements.
+ */
+enum hm_secs_refusal {
+    HM_REFUSED_CUT_SHORT = 20,       /* the message ends inside an item, or before one that a list counts */
+    HM_REFUSED_UNKNOWN_CODE = 21,    /* a format code that isn't one of the fourteen; JIS-8 too */
+    HM_REFUSED_BAD_LENGTH = 22,      /* no length byte, or a length no multiple of the element size */
+    HM_REFUSED_TOO_DEEP = 23,        /* a list inside a list at depth HM_SECS_DEPTH, even an empty one */
+    HM_REFUSED_TOO_MANY_ITEMS = 24,  /* an item after the first HM_SECS_ITEMS */
+    HM_REFUSED_BYTES_LEFT_OVER = 25, /* the item ends before the message does */
+    HM_REFUSED_SHAPE_OR_ACTION = 26  /* another shape, or an action text that isn't one of the four */
 };
 
 /* The models of reports. The subject is a port in 1 to 4 and a name in 5 to 7. */
@@ -259,6 +276,26 @@ uint32_t hm_step(hm_tool *tool, hm_reports *reports, uint32_t number, uint32_t p
  * or a byte that no name has. A tag reader's text may be asked of before it is sent; hm_step does so by itself.
  */
 uint32_t hm_name(const uint8_t *text, uint64_t length);
+
+/*
+ * Reads the text of a host's S3F17, as SEMI E5 lays it out and without the ten bytes of header before it, and gives
+ * the tool the input that it asks for: a list of five, being the data id (U1, U2, U4 or U8), the action (ASCII: "Bind",
+ * "CarrierNotification", "ProceedWithCarrier" or "CancelCarrier"), the carrier's name (ASCII), the port (U1, 0: not
+ * given) and a list of attributes, each a list of a name (ASCII) and a value. A first attribute named "SlotMap" is a
+ * list of 25 U1, in Bind and CarrierNotification the expected map. The rest is read and dropped, and so is the port
+ * of CarrierNotification. Each number or boolean item holds one value.
+ * 20 to 26, by enum hm_secs_refusal: refused, and the tool gets no input: it is as it was, byte for byte, and the
+ * reports are all zero. Else the tool's own answer, with tool and reports as hm_step leaves them.
+ * In both cases *items is the count of items begun that met none of 20 to 24: at most HM_SECS_ITEMS.
+ * The message is read where it stands, and no byte outside it.
+ */
+uint32_t hm_secs_step(hm_tool *tool, hm_reports *reports, const uint8_t *message, uint64_t length, uint32_t *items);
+
+/*
+ * Where the reading of a message stopped, in bytes from its first: for 20 to 24 where the refused item begins, for 25
+ * the first byte left over, else the end of the message. For a log; hm_secs_step doesn't need it.
+ */
+uint64_t hm_secs_at(const uint8_t *message, uint64_t length);
 
 /* 1 when the tool, whatever its bytes, is sound, else 0. Changes nothing. hm_step asks it for every input. */
 uint32_t hm_sound(const hm_tool *tool);

@@ -4,7 +4,8 @@ C_FILES = include/hawsermole.h $(wildcard tests/c/*.h) $(ARCHIVE)
 SANITIZE = -fsanitize=address,undefined -fno-sanitize-recover=all -fno-omit-frame-pointer
 SANITIZED = gcc -std=c99 $(CFLAGS_C) $(SANITIZE)
 
-C_PROGRAMS = header-c99 header-c11 header-c++17 twelve maps names waiting firmware callers stack
+SANITIZED_PROGRAMS = firmware names secs waiting callers
+C_PROGRAMS = header-c99 header-c11 header-c++17 twelve maps names secs waiting firmware callers stack
 
 c: cross $(C_PROGRAMS:%=target/c/%)
 	CC="$(CC)" tests/c/archive.sh $(ARCHIVE)
@@ -14,16 +15,18 @@ c: cross $(C_PROGRAMS:%=target/c/%)
 	$(EMULATOR) target/c/twelve
 	$(EMULATOR) target/c/maps
 	$(EMULATOR) target/c/names
+	$(EMULATOR) target/c/secs
 	$(EMULATOR) target/c/waiting
 	$(EMULATOR) target/c/firmware > target/c/firmware.txt
 	diff tests/c/firmware.txt target/c/firmware.txt
 	$(EMULATOR) target/c/callers $(CALLERS)
 	$(EMULATOR) target/c/stack
 
-sanitize: target/c/firmware-sanitized target/c/names-sanitized target/c/callers-sanitized target/c/waiting-sanitized
+sanitize: $(SANITIZED_PROGRAMS:%=target/c/%-sanitized)
 	target/c/firmware-sanitized > target/c/firmware-sanitized.txt
 	diff tests/c/firmware.txt target/c/firmware-sanitized.txt
 	target/c/names-sanitized
+	target/c/secs-sanitized
 	target/c/callers-sanitized $(CALLERS)
 	target/c/waiting-sanitized
 
@@ -35,7 +38,8 @@ target/c/header-c++17: tests/c/header.c $(C_FILES)
 	mkdir -p target/c
 	$(CXX) -std=c++17 $(CFLAGS_C) -x c++ $< -x none $(ARCHIVE) -o $@
 
-target/c/twelve target/c/maps target/c/names target/c/waiting target/c/callers target/c/stack: target/c/%: tests/c/%.c $(C_FILES)
+target/c/twelve target/c/maps target/c/names target/c/secs target/c/waiting target/c/callers target/c/stack: \
+		target/c/%: tests/c/%.c $(C_FILES)
 	mkdir -p target/c
 	$(CC) -std=c99 $(CFLAGS_C) $< $(ARCHIVE) -Wl,-z,now -o $@
 
@@ -47,7 +51,7 @@ target/c/firmware-sanitized: examples/firmware.c $(C_FILES) $(NATIVE)/libhawserm
 	mkdir -p target/c
 	$(SANITIZED) $< $(NATIVE)/libhawsermole.a -o $@
 
-target/c/names-sanitized target/c/callers-sanitized target/c/waiting-sanitized: target/c/%-sanitized: tests/c/%.c $(C_FILES) \
-		$(NATIVE)/libhawsermole.a
+target/c/names-sanitized target/c/secs-sanitized target/c/waiting-sanitized target/c/callers-sanitized: \
+		target/c/%-sanitized: tests/c/%.c $(C_FILES) $(NATIVE)/libhawsermole.a
 	mkdir -p target/c
 	$(SANITIZED) $< $(NATIVE)/libhawsermole.a -o $@

@@ -14,6 +14,10 @@ HM_HOLDS(ends, HM_INPUT_BIND == 1 && HM_INPUT_UNLOAD_FAIL == HM_INPUTS && HM_REF
 HM_HOLDS(codes, HM_CODE_UNDEFINED == 0 && HM_CODE_EMPTY == 1 && HM_CODE_NOT_EMPTY == 2);
 HM_HOLDS(more_codes, HM_CODE_CORRECTLY_OCCUPIED == 3 && HM_CODE_DOUBLE_SLOTTED == 4 && HM_CODE_CROSS_SLOTTED == 5);
 HM_HOLDS(greatest_code, HM_CODE_CROSS_SLOTTED == HM_CODE_GREATEST);
+HM_HOLDS(limits_of_a_message, HM_SECS_ITEMS == 128 && HM_SECS_DEPTH == 6);
+HM_HOLDS(refusals_at_an_item, HM_REFUSED_CUT_SHORT == 20 && HM_REFUSED_UNKNOWN_CODE == 21);
+HM_HOLDS(more_at_an_item, HM_REFUSED_BAD_LENGTH == 22 && HM_REFUSED_TOO_DEEP == 23 && HM_REFUSED_TOO_MANY_ITEMS == 24);
+HM_HOLDS(refusals_of_a_message, HM_REFUSED_BYTES_LEFT_OVER == 25 && HM_REFUSED_SHAPE_OR_ACTION == 26);
 HM_HOLDS(bytes_of_a_tool, HM_TOOL_BYTES == 2 * 1891 && HM_SPARE_BYTES == 1891 - HM_RECORDS * HM_SLOTS);
 
 static hm_tool tool;
@@ -150,6 +154,23 @@ static void names(void)
     CHECK(memcmp(reports.items[0].name, text, HM_NAME_BYTES) == 0);
 }
 
+static void messages(void)
+{
+    static const uint8_t notify[] = {0x01, 5, 0xA5, 1, 0, 0x41, 19, 'C', 'a', 'r', 'r', 'i', 'e', 'r', 'N', 'o',
+                                     't', 'i', 'f', 'i', 'c', 'a', 't', 'i', 'o', 'n', 0x41, 1, 'M', 0xA5, 1, 9,
+                                     0x01, 0};
+    uint32_t items = 0;
+    const uint8_t records = tool.count;
+
+    CHECK(hm_secs_step(&tool, &reports, notify, sizeof notify, &items) == HM_ACCEPTED && items == 6);
+    CHECK(tool.count == records + 1 && reports.count == 3 && is_name(reports.items[0].name, "M"));
+    CHECK(hm_secs_at(notify, sizeof notify) == sizeof notify);
+    CHECK(hm_secs_step(&tool, &reports, notify, sizeof notify, &items) == HM_REFUSED_NAME_TAKEN && items == 6);
+    CHECK(hm_secs_step(&tool, &reports, notify, 5, &items) == HM_REFUSED_CUT_SHORT && items == 2);
+    CHECK(hm_secs_at(notify, 5) == 5 && hm_secs_at(HM_NOTHING, 0) == 0 && reports.count == 0);
+    CHECK(hm_secs_step(&tool, &reports, HM_NOTHING, 0, &items) == HM_REFUSED_CUT_SHORT && items == 0);
+}
+
 static void refusals(void)
 {
     char name[2] = "a";
@@ -189,6 +210,7 @@ int main(void)
     a_pod_goes_out();
     a_pod_without_a_name();
     names();
+    messages();
     refusals();
     return result("header");
 }

@@ -11,6 +11,7 @@
 #include <ucontext.h>
 
 #include "chance.h"
+#include "secs.h"
 
 #define STACK_BYTES (256u * 1024u)
 #define WORDS (STACK_BYTES / sizeof(uint64_t))
@@ -26,13 +27,16 @@ static struct painted for_setup = {"hm_setup", NULL, NULL};
 static struct painted for_sound = {"hm_sound", NULL, NULL};
 static struct painted for_name = {"hm_name", NULL, NULL};
 static struct painted for_waiting = {"hm_waiting", NULL, NULL};
+static struct painted for_secs_step = {"hm_secs_step", NULL, NULL};
+static struct painted for_secs_at = {"hm_secs_at", NULL, NULL};
 
 static ucontext_t here, there;
 static hm_tool tool;
 static hm_reports reports;
 static struct input in;
-static uint32_t answer;
-static unsigned long accepted, refused, removed, removed_from_full, most_records, at_once;
+static struct message message;
+static uint32_t answer, items;
+static unsigned long accepted, refused, removed, removed_from_full, most_records, at_once, bridged, unread;
 
 static uint64_t paint(size_t i)
 {
@@ -83,6 +87,18 @@ static void call_waiting(void)
     answer = hm_waiting(tool.carriers, HM_RECORDS, &found);
 }
 
+static void call_secs_step(void)
+{
+    for_secs_step.frame = (const char *)__builtin_frame_address(0);
+    answer = hm_secs_step(&tool, &reports, message.bytes, message.length, &items);
+}
+
+static void call_secs_at(void)
+{
+    for_secs_at.frame = (const char *)__builtin_frame_address(0);
+    items = (uint32_t)hm_secs_at(message.bytes, message.length);
+}
+
 static void run_on(const struct painted *p, void (*call)(void))
 {
     getcontext(&there);
@@ -121,6 +137,41 @@ static void step(void)
     removed += tool.count < before;
     removed_from_full += tool.count < before && before == HM_RECORDS;
     most_records = tool.count > most_records ? tool.count : most_records;
+}
+
+/* So many lists, one in another, as the value of an attribute: it stands at depth four. */
+static void put_nested(uint32_t lists)
+{
+    put_head(&message, LIST, 2);
+    put_text(&message, "X");
+    while (lists-- > 0) {
+        put_head(&message, LIST, 1);
+    }
+    put_u1(&message, 0);
+}
+
+/* The name, port and codes of `in` as a message, to a copy of the tool: as deep as may be, and a list deeper. */
+static void secs_step(void)
+{
+    static const char *const actions[] = {"Bind", "CarrierNotification", "ProceedWithCarrier", "CancelCarrier"};
+    const int mapped = in.codes_length == HM_SLOTS;
+    hm_tool before = tool;
+    uint32_t action, lists;
+
+    for (action = 0; action < 4; action++) {
+        for (lists = HM_SECS_DEPTH - 3; lists <= HM_SECS_DEPTH - 2; lists++) {
+            begin(&message, actions[action], in.name, in.name_length, (uint8_t)in.port, mapped ? 2 : 1);
+            if (mapped) {
+                put_map(&message, in.codes);
+            }
+            put_nested(lists);
+            run_on(&for_secs_step, call_secs_step);
+            run_on(&for_secs_at, call_secs_at);
+            bridged += answer == HM_ACCEPTED;
+            unread += answer == HM_REFUSED_TOO_DEEP;
+            tool = before;
+        }
+    }
 }
 
 static void plain_step(uint32_t number, uint32_t port, uint32_t value, uint32_t letter)
@@ -192,6 +243,7 @@ static void by_chance(unsigned long inputs)
             ((uint8_t *)&tool)[below(sizeof tool)] ^= 0x55;
         }
         next_input(&in, &tool);
+        secs_step();
         step();
         run_on(&for_sound, call_sound);
         run_on(&for_name, call_name);
@@ -219,6 +271,8 @@ int main(int argc, char **argv)
     prepare(&for_sound);
     prepare(&for_name);
     prepare(&for_waiting);
+    prepare(&for_secs_step);
+    prepare(&for_secs_at);
     chance_state = 1;
     every_row_to_a_full_tool();
     by_chance(argc > 1 ? strtoul(argv[1], NULL, 10) : 50000);
@@ -227,10 +281,13 @@ int main(int argc, char **argv)
     failed += figure(&for_sound);
     failed += figure(&for_name);
     failed += figure(&for_waiting);
+    failed += figure(&for_secs_step);
+    failed += figure(&for_secs_at);
     printf("over %lu accepted and %lu refused inputs, %lu records removed, %lu of them from a full tool of %lu, ",
            accepted, refused, removed, removed_from_full, most_records);
-    printf("%lu slot maps OK at once\n", at_once);
-    if (accepted == 0 || refused == 0 || removed_from_full == 0 || most_records != HM_RECORDS || at_once == 0) {
+    printf("%lu slot maps OK at once, %lu messages accepted, %lu too deep\n", at_once, bridged, unread);
+    if (accepted == 0 || refused == 0 || removed_from_full == 0 || most_records != HM_RECORDS || at_once == 0 ||
+        bridged == 0 || unread == 0) {
         fprintf(stderr, "too little was met for this to mean anything\n");
         failed++;
     }
