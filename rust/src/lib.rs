@@ -2,10 +2,10 @@
 //! load ports, pods and the buffer, one input at a time, no heap.
 //!
 //! The machine itself is an archive, `libhawsermole.a`, proved to give exactly the answer, the state and the
-//! reports that document 01 lays down, with document 02's requests P1 and P4. This crate wraps it: an [`Input`] has
-//! document 01's name and arguments, a [`Refusal`] is one of its eight reasons, [`Reports`] gives what changed, an
-//! [`ExpectedMap`] lets the tool judge a slot map that the host knows beforehand, and [`Name::in_text`] tells which
-//! name a tag reader's text has without the blanks at its end.
+//! reports that document 01 lays down, with document 02's requests P1, P3, P4 and P6. This crate wraps it: an [`Input`]
+//! has document 01's name and arguments, a [`Refusal`] is one of its eight reasons, [`Reports`] gives what changed, an
+//! [`ExpectedMap`] lets the tool judge a slot map that the host knows beforehand, [`Name::in_text`] tells which name a
+//! tag reader's text has without the blanks at its end, and [`Tool::secs_step`] takes a host's S3F17 as it came.
 //!
 //! ```
 //! use hawsermole::{Input, Model, Refusal, Subject, Tool};
@@ -35,7 +35,7 @@
 //! An operator panel asks every frame whether some carrier waits for the host: [`Tool::waiting`], or [`waiting`] for a
 //! table of records (document 02's request P2).
 //!
-//! No input is too odd: numbers are 32 bits and are not cut, names and codes may be any bytes of any length,
+//! No input is too odd: numbers are 32 bits and are not cut, names, codes and messages may be any bytes of any length,
 //! and a [`Tool`] may be made of any bytes. A refusal leaves the tool as it was.
 //!
 //! The archive is for one target (x86-64 Linux, unless yours was built for another). It needs `memcpy`, `memset` and
@@ -61,11 +61,11 @@ pub mod words;
 pub use input::{Input, Parts};
 pub use map::{ExpectedMap, MapError};
 pub use name::{Name, NameError, NAME_BYTES, TEXT_BYTES};
-pub use raw::{CARRIER_BYTES, REPORTS_BYTES, TOOL_BYTES};
+pub use raw::{secs_at, CARRIER_BYTES, REPORTS_BYTES, TOOL_BYTES};
 pub use refusal::Refusal;
 pub use report::{Model, Report, Reports, Subject, REPORTS};
 pub use row::{Argument, Row, ROWS};
-pub use tool::{Carrier, Port, Tool, PORTS, RECORDS, SLOTS};
+pub use tool::{Bridged, Carrier, Port, Tool, PORTS, RECORDS, SECS_DEPTH, SECS_ITEMS, SLOTS};
 pub use waiting::{waiting, Waiting};
 
 /// The manual's Rust is tested with this crate's own examples.

@@ -33,6 +33,19 @@ pub fn waiting(records: &[[u8; CARRIER_BYTES]]) -> (bool, [u64; 2]) {
     (waits, found)
 }
 
+/// A message: the answer and the count of items; tool and reports are written.
+pub fn secs_step(
+    tool: &mut [u8; TOOL_BYTES],
+    reports: &mut [u8; REPORTS_BYTES],
+    message: &[u8],
+) -> (u32, u32) {
+    check_sizes();
+    let mut items = 0;
+    // SAFETY: the sizes agree.
+    let answer = unsafe { raw::secs_step(tool, reports, message, &mut items) };
+    (answer, items)
+}
+
 fn check_sizes() {
     assert!(
         raw::sizes_agree(),

@@ -35,6 +35,16 @@ unsafe extern "C" {
     pub fn hm_sound(tool: &[u8; TOOL_BYTES]) -> u32;
     /// How many bytes of a text are its name, 0 where it is refused; [`name_length`] is the same with a slice.
     pub fn hm_name(text: *const u8, length: u64) -> u32;
+    /// A message, read and then stepped; [`secs_step`] is the same with a slice.
+    pub fn hm_secs_step(
+        tool: &mut [u8; TOOL_BYTES],
+        reports: &mut [u8; REPORTS_BYTES],
+        message: *const u8,
+        length: u64,
+        items: &mut u32,
+    ) -> u32;
+    /// Where the reading of a message stopped; [`secs_at`] is the same with a slice.
+    pub fn hm_secs_at(message: *const u8, length: u64) -> u64;
     /// One input; [`step`] is the same with slices.
     pub fn hm_step(
         tool: &mut [u8; TOOL_BYTES],
@@ -98,6 +108,34 @@ pub unsafe fn step(
     unsafe {
         hm_step(tool, reports, number, port, value, name.as_ptr(), name_length, codes.as_ptr(), codes_length)
     }
+}
+
+/// A message, read and then stepped: the answer; tool, reports and the count of items are written in place.
+///
+/// # Safety
+/// [`sizes_agree`].
+#[inline(always)]
+pub unsafe fn secs_step(
+    tool: &mut [u8; TOOL_BYTES],
+    reports: &mut [u8; REPORTS_BYTES],
+    message: &[u8],
+    items: &mut u32,
+) -> u32 {
+    // SAFETY: as for `step`.
+    unsafe { hm_secs_step(tool, reports, message.as_ptr(), message.len() as u64, items) }
+}
+
+/// Where the reading of a message stopped: where the item begins that was refused with 20 to 24, the first byte left
+/// over (25), or the end.
+///
+/// ```
+/// use hawsermole::raw::secs_at;
+///
+/// assert_eq!((secs_at(&[1, 1, 0xA5]), secs_at(&[1, 0, 7]), secs_at(&[1, 0])), (2, 2, 2));
+/// ```
+pub fn secs_at(message: &[u8]) -> usize {
+    // SAFETY: a slice's pointer is never null, and the archive reads no further than its length.
+    unsafe { hm_secs_at(message.as_ptr(), message.len() as u64) as usize }
 }
 
 #[cfg(test)]

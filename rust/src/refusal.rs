@@ -1,7 +1,8 @@
 //! Why an input is refused.
 use core::fmt;
 
-/// Why an input was refused: document 01's eight reasons. When several apply, the lowest number is given.
+/// Why an input was refused: document 01's eight reasons, of which the lowest that applies is given; or why a message
+/// was, by request P3: the first that its reading meets, and the lowest at one item.
 ///
 /// ```
 /// use hawsermole::{Input, Refusal, Tool};
@@ -33,11 +34,25 @@ pub enum Refusal {
     NotVerified = 7,
     /// 8: the buffer place is taken, or the opener is in use.
     PlaceOrOpenerTaken = 8,
+    /// 20: the message ends inside an item, or before one that a list counts.
+    CutShort = 20,
+    /// 21: a format code that isn't one of the fourteen; JIS-8 too.
+    UnknownCode = 21,
+    /// 22: no length byte, or a length no multiple of the element size.
+    BadLength = 22,
+    /// 23: a list inside a list at depth six, even an empty one.
+    TooDeep = 23,
+    /// 24: an item after the first 128.
+    TooManyItems = 24,
+    /// 25: the item ends before the message does.
+    BytesLeftOver = 25,
+    /// 26: another shape, or an action that isn't one of the four.
+    ShapeOrAction = 26,
 }
 
 impl Refusal {
-    /// All eight, by number.
-    pub const ALL: [Refusal; 8] = [
+    /// All fifteen, by number.
+    pub const ALL: [Refusal; 15] = [
         Refusal::OutOfRange,
         Refusal::NoRecord,
         Refusal::NameTaken,
@@ -46,14 +61,32 @@ impl Refusal {
         Refusal::ExpectedFull,
         Refusal::NotVerified,
         Refusal::PlaceOrOpenerTaken,
+        Refusal::CutShort,
+        Refusal::UnknownCode,
+        Refusal::BadLength,
+        Refusal::TooDeep,
+        Refusal::TooManyItems,
+        Refusal::BytesLeftOver,
+        Refusal::ShapeOrAction,
     ];
 
-    /// Document 01's number, 1 to 8.
+    /// The documents' number: 1 to 8, and 20 to 26 for a message.
     pub const fn number(self) -> u8 {
         self as u8
     }
 
-    /// The refusal of a number; none for 0 (accepted) and for numbers past 8.
+    /// Whether a message was refused as it was read, so that the tool got no input: 20 to 26.
+    ///
+    /// ```
+    /// use hawsermole::Refusal;
+    ///
+    /// assert!(Refusal::CutShort.is_of_message() && !Refusal::NoRecord.is_of_message());
+    /// ```
+    pub const fn is_of_message(self) -> bool {
+        self.number() >= Refusal::CutShort.number()
+    }
+
+    /// The refusal of a number; none for 0 (accepted) and for numbers that no refusal has.
     ///
     /// ```
     /// use hawsermole::Refusal;
@@ -61,12 +94,13 @@ impl Refusal {
     /// assert_eq!(Refusal::from_number(7), Some(Refusal::NotVerified));
     /// assert_eq!(Refusal::from_number(0), None);
     /// assert_eq!(Refusal::from_number(9), None);
+    /// assert_eq!(Refusal::from_number(26), Some(Refusal::ShapeOrAction));
     /// ```
     pub fn from_number(number: u32) -> Option<Refusal> {
         Refusal::ALL.into_iter().find(|refusal| u32::from(refusal.number()) == number)
     }
 
-    /// The reason in document 01's words.
+    /// The reason in the documents' words.
     pub const fn text(self) -> &'static str {
         match self {
             Refusal::OutOfRange => {
@@ -80,6 +114,13 @@ impl Refusal {
             Refusal::ExpectedFull => "16 carriers are expected already",
             Refusal::NotVerified => "not verified",
             Refusal::PlaceOrOpenerTaken => "the buffer place is taken, or the opener is in use",
+            Refusal::CutShort => "the message is cut short",
+            Refusal::UnknownCode => "unknown format code",
+            Refusal::BadLength => "no length byte, or a length no multiple of the element size",
+            Refusal::TooDeep => "lists too deep",
+            Refusal::TooManyItems => "too many items",
+            Refusal::BytesLeftOver => "bytes left over",
+            Refusal::ShapeOrAction => "another shape or action",
         }
     }
 }
@@ -99,19 +140,21 @@ mod tests {
 
     #[test]
     fn numbers_go_both_ways() {
-        for (place, refusal) in Refusal::ALL.into_iter().enumerate() {
-            assert_eq!(usize::from(refusal.number()), place + 1);
+        for (number, refusal) in (1..=8).chain(20..=26).zip(Refusal::ALL) {
+            assert_eq!(refusal.number(), number);
+            assert_eq!(refusal.is_of_message(), number > 8);
             assert_eq!(Refusal::from_number(u32::from(refusal.number())), Some(refusal));
         }
-        for odd in [0, 9, 255, 256, 257, u32::MAX] {
+        for odd in [0, 9, 19, 27, 255, 256, 257, 276, u32::MAX] {
             assert_eq!(Refusal::from_number(odd), None);
         }
     }
 
     #[test]
-    fn reasons_are_document_01s_words() {
+    fn reasons_are_the_documents_words() {
         assert_eq!(Refusal::NotVerified.to_string(), "not verified");
         assert_eq!(Refusal::ExpectedFull.to_string(), "16 carriers are expected already");
+        assert_eq!(Refusal::BytesLeftOver.to_string(), "bytes left over");
         assert!(Refusal::OutOfRange.to_string().ends_with("or the state isn't sound"));
     }
 }

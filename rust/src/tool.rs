@@ -14,6 +14,10 @@ pub const PORTS: usize = 4;
 pub const RECORDS: usize = 36;
 /// The slots of a carrier.
 pub const SLOTS: usize = 25;
+/// The most items that a message has.
+pub const SECS_ITEMS: usize = 128;
+/// The most lists of a message, one in another.
+pub const SECS_DEPTH: usize = 6;
 
 pub(crate) const HEAD_BYTES: usize = 3;
 pub(crate) const PORT_BYTES: usize = 22;
@@ -112,6 +116,32 @@ impl Tool {
         let mut reports = [0; REPORTS_BYTES];
         refused(machine::step(&mut self.bytes, &mut reports, parts))?;
         Ok(Reports::new(reports))
+    }
+
+    /// A message from the host bridge: the text of an S3F17, without the header before it. It is read, and what it asks
+    /// for is stepped. A refusal leaves the tool as it was; with 20 to 26 the tool got no input.
+    ///
+    /// ```
+    /// use hawsermole::{secs_at, Refusal, Tool};
+    ///
+    /// let mut tool = Tool::setup(1, 0).unwrap();
+    /// // A list of five: data id U1 7, action "Bind", carrier "AB", port U1 1, no attributes.
+    /// let message = b"\x01\x05\xA5\x01\x07\x41\x04Bind\x41\x02AB\xA5\x01\x01\x01\x00";
+    /// let bound = tool.secs_step(message);
+    /// assert_eq!((bound.answer.unwrap().len(), bound.items), (5, 6));
+    ///
+    /// // Without its last two bytes the fifth element is missing, after five items.
+    /// let cut = tool.secs_step(&message[..18]);
+    /// assert_eq!((cut.answer, cut.items), (Err(Refusal::CutShort), 5));
+    /// assert_eq!(secs_at(&message[..18]), 18);
+    ///
+    /// // The tool's own refusals come as they are.
+    /// assert_eq!(tool.secs_step(message).answer, Err(Refusal::NameTaken));
+    /// ```
+    pub fn secs_step(&mut self, message: &[u8]) -> Bridged {
+        let mut reports = [0; REPORTS_BYTES];
+        let (answer, items) = machine::secs_step(&mut self.bytes, &mut reports, message);
+        Bridged { answer: refused(answer).map(|()| Reports::new(reports)), items }
     }
 
     /// Whether every field is in its range and all of document 01's conditions on a state hold.
@@ -216,11 +246,20 @@ impl fmt::Debug for Tool {
     }
 }
 
-/// The proved machine answers 0 to 8 and nothing else.
+/// What a message gave.
+#[derive(Clone, Debug, PartialEq, Eq)]
+pub struct Bridged {
+    /// The tool's answer; or the reader's refusal, 20 to 26, and the tool got no input.
+    pub answer: Result<Reports, Refusal>,
+    /// How many items have begun that met none of 20 to 24: at most [`SECS_ITEMS`].
+    pub items: u32,
+}
+
+/// The proved machine answers 0 to 8, or 20 to 26 to a message, and nothing else.
 fn refused(answer: u32) -> Result<(), Refusal> {
     match answer {
         0 => Ok(()),
-        _ => Err(Refusal::from_number(answer).expect("the machine answers 0 to 8")),
+        _ => Err(Refusal::from_number(answer).expect("the machine answers 0 to 8 or 20 to 26")),
     }
 }
 
