@@ -2,6 +2,8 @@
 #![forbid(unsafe_code)]
 
 mod explain;
+mod items;
+mod message;
 mod options;
 mod people;
 mod player;

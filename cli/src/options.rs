@@ -59,7 +59,7 @@ pub fn help() -> String {
     }
     text += HELP_END;
     for refusal in Refusal::ALL {
-        text += &format!("  {}  {refusal}\n", refusal.number());
+        text += &format!("  {:>2}  {refusal}\n", refusal.number());
     }
     text
 }
@@ -70,7 +70,8 @@ usage: hawsermole [--explain] [FILE]
 Plays a script of SEMI E87 inputs on the proved machine, line by line as it comes, from FILE or
 standard input (no FILE, or -).
 
-  --explain   adds lines in E87's words to each answer and report, and the name used for a padded one
+  --explain   adds lines in E87's words to each answer and report, the name used for a padded one, and
+              the items of a message
   --help      prints this
   --version   prints the version
 
@@ -79,6 +80,7 @@ begins with #, prints nothing.
 
   setup P B                         a tool of P ports (1 to 4) and B buffer places (0 to 16)
   in NUMBER PORT VALUE NAME CODES   an input by number; NAME and CODES in hex, - for none
+  secs HEX                          a message from the host bridge: the text of an S3F17 in hex
   dump                              the whole state, for programs
   state                             the same, for people
   waiting                           the first carrier that waits for the host
@@ -96,6 +98,8 @@ a single -, is sent with in.
 setup prints   setup ANSWER
 in prints      ANSWER COUNT [MODEL SUBJECT OLD NEW; ..]   with names in hex
 a name prints  ANSWER  MODEL SUBJECT OLD>NEW; ..          or none
+secs prints    secs REFUSAL ITEMS   REFUSAL is 0, or 20 to 26 and the tool got no input;
+               where it is 0, the answer of its input follows as in prints it
 dump prints    port I TRANSFER ACCESS RESERVED TIE MOVEMENT POD TAG
                rec NAME PLACE SPOT PORT OPEN CANCELLED CAME-OUT CODES ID SLOT ACCESSING
                map NAME CODES   for each record with an expected map
@@ -103,10 +107,12 @@ dump prints    port I TRANSFER ACCESS RESERVED TIE MOVEMENT POD TAG
 waiting prints waiting POSITION READ, or waiting none READ   the place of the first record, from 0,
                whose carrier waits for the host, and how many records were read to know
 
-Before a set-up, and after one that was refused, there is no tool: every input is answered 1. A line
-that can't be read is named on standard error and ends the run with status 2.
+Before a set-up, and after one that was refused, there is no tool: every input is answered 1, and a
+message is read all the same. A line that can't be read is named on standard error and ends the run with
+status 2.
 
-ANSWER is 0, accepted, or why it was refused (the lowest number that applies):
+ANSWER is 0, accepted, or why it was refused (the lowest number that applies); REFUSAL 20 to 26 is the
+first that was met, and the lowest at one item:
 
 ";
 
@@ -151,6 +157,7 @@ mod tests {
     fn help_names_every_input_and_refusal() {
         let help = help();
         assert!(ROWS.iter().all(|row| help.contains(&format!("  {} ", row.name))));
-        assert!(help.ends_with("\n  8  the buffer place is taken, or the opener is in use\n"));
+        assert!(help.contains("\n   8  the buffer place is taken, or the opener is in use\n"));
+        assert!(help.ends_with("\n  26  another shape or action\n"));
     }
 }

@@ -1,8 +1,8 @@
 //! The player: the tool, and what each command prints.
 use crate::print::{self, Answer};
 use crate::script::{Command, Sent};
-use crate::{explain, people};
-use hawsermole::Tool;
+use crate::{explain, message, people};
+use hawsermole::{Bridged, Tool};
 
 /// A tool that is played on; at first there is none.
 pub struct Player {
@@ -22,6 +22,7 @@ impl Player {
             Command::Setup { ports, places } => self.setup(*ports, *places),
             Command::In(sent) => self.input(sent, print::numbered),
             Command::Named(sent) => self.input(sent, print::named),
+            Command::Secs(message) => self.secs(message),
             Command::Dump => print::dump(&self.tool),
             Command::State => people::state(&self.tool),
             Command::Waiting => self.waiting(),
@@ -66,6 +67,23 @@ impl Player {
             false => printed,
         }
     }
+
+    /// What was read, and where that was good the input's answer as `in` prints it.
+    fn secs(&mut self, bytes: &[u8]) -> String {
+        let Bridged { answer, items } = self.tool.secs_step(bytes);
+        let refusal = answer.as_ref().err().copied().filter(|refusal| refusal.is_of_message());
+        let mut printed = format!("secs {} {items}\n", refusal.map_or(0, |refusal| refusal.number()));
+        if self.explain {
+            printed += &message::read(bytes, items, refusal);
+        }
+        if refusal.is_none() {
+            printed += &print::numbered(&answer);
+        }
+        if self.explain && refusal.is_none() {
+            printed += &explain::answer(&self.tool, &message::asked(bytes, items).parts(), &answer);
+        }
+        printed
+    }
 }
 
 #[cfg(test)]
@@ -91,6 +109,31 @@ mod tests {
             ["setup 2 0", "LoadStart 1", "setup 0 0", "LoadDone 1", "dump", "setup 1 0", "LoadStart 1"];
         let expected = "setup 0\n0  1 1 1>3\nsetup 1\n1  none\nend\nsetup 0\n0  1 1 1>3\n";
         assert_eq!(played(false, &lines), expected);
+    }
+
+    const BIND: &str = "secs 0105A50107410442696E6441024142A501010100";
+
+    #[test]
+    fn messages_are_read_and_then_stepped() {
+        let lines = [BIND, "secs -", "setup 1 0", BIND, BIND, "secs 0105"];
+        let bound = "0 5 [3 1 0 1; 4 1 0 1; 5 4142 0 1; 6 4142 0 1; 7 4142 0 1]";
+        let expected =
+            format!("secs 0 6\n1 0 []\nsecs 20 0\nsetup 0\nsecs 0 6\n{bound}\nsecs 0 6\n3 0 []\nsecs 20 1\n");
+        assert_eq!(played(false, &lines), expected);
+    }
+
+    /// Without the lines that explain, the rest is as it is without `--explain`.
+    #[test]
+    fn messages_are_explained_below_each_line() {
+        let lines = ["setup 1 0", BIND, "secs 0105"];
+        let explained = played(true, &lines);
+        let plain: Vec<&str> = explained.lines().filter(|line| !line.starts_with("  ")).collect();
+        assert_eq!(plain.join("\n") + "\n", played(false, &lines));
+        assert!(explained.contains("     18    L,0\n0 5 ["), "{explained}");
+        assert!(explained.contains("]\n  Bind(1, AB): associate"), "{explained}");
+        assert!(explained.ends_with(
+            "  at byte 2: the message ends where an item should begin\n  the tool gets no input\n"
+        ));
     }
 
     #[test]

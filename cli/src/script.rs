@@ -15,6 +15,8 @@ pub enum Command {
     In(Sent),
     /// An input by name.
     Named(Sent),
+    /// A message from the host bridge.
+    Secs(Vec<u8>),
     Dump,
     State,
     /// Is anyone waiting?
@@ -41,6 +43,7 @@ impl Sent {
 
 const SETUP: &str = "setup P B";
 const IN: &str = "in NUMBER PORT VALUE NAME CODES";
+const SECS: &str = "secs HEX";
 const DUMP: &str = "dump";
 const STATE: &str = "state";
 const WAITING: &str = "waiting";
@@ -53,6 +56,7 @@ pub fn read(line: &[u8]) -> Result<Command, String> {
         Some([b'#', ..]) => Ok(Command::Nothing),
         Some(b"setup") => read_setup(words),
         Some(b"in") => read_in(words),
+        Some(b"secs") => read_secs(words),
         Some(b"dump") => words.end(DUMP).map(|()| Command::Dump),
         Some(b"state") => words.end(STATE).map(|()| Command::State),
         Some(b"waiting") => words.end(WAITING).map(|()| Command::Waiting),
@@ -77,6 +81,12 @@ fn read_in(mut words: Words) -> Result<Command, String> {
     };
     words.end(IN)?;
     Ok(Command::In(sent))
+}
+
+fn read_secs(mut words: Words) -> Result<Command, String> {
+    let message = values::hex("message", words.argument("message", SECS)?)?;
+    words.end(SECS)?;
+    Ok(Command::Secs(message))
 }
 
 fn read_named(first: &[u8], mut words: Words) -> Result<Command, String> {
@@ -117,12 +127,12 @@ pub fn usage(row: &Row) -> String {
 }
 
 fn unknown(word: &[u8]) -> String {
-    let commands = ["setup", "in", "dump", "state", "waiting"];
+    let commands = ["setup", "in", "secs", "dump", "state", "waiting"];
     let mut known = commands.into_iter().chain(ROWS.iter().map(|row| row.name));
     match known.find(|known| known.as_bytes().eq_ignore_ascii_case(word)) {
         Some(near) => format!("unknown word '{}': it is written {near}", shown(word)),
         None => format!(
-            "unknown word '{}': expected setup, in, dump, state, waiting or an input's name such as Bind",
+            "unknown word '{}': expected setup, in, secs, dump, state, waiting or an input's name such as Bind",
             shown(word)
         ),
     }
@@ -161,6 +171,8 @@ mod tests {
         assert_eq!(read(b"dump\r\n"), Ok(Command::Dump));
         assert_eq!(read(b"\tstate "), Ok(Command::State));
         assert_eq!(read(b"waiting\n"), Ok(Command::Waiting));
+        assert_eq!(read(b"secs 0100"), Ok(Command::Secs(vec![1, 0])));
+        assert_eq!(read(b"secs -"), Ok(Command::Secs(vec![])));
         assert_eq!(read(b"in 20 1 2 4142 0305"), Ok(Command::In(sent(20, 1, 2, b"AB", &[3, 5]))));
         assert_eq!(read(b"in 4294967295 0 0 - -"), Ok(Command::In(sent(u32::MAX, 0, 0, b"", b""))));
     }
@@ -210,7 +222,7 @@ mod tests {
 
     #[test]
     fn unknown_words() {
-        let expected = "expected setup, in, dump, state, waiting or an input's name such as Bind";
+        let expected = "expected setup, in, secs, dump, state, waiting or an input's name such as Bind";
         assert_eq!(error("Frobnicate 1"), format!("unknown word 'Frobnicate': {expected}"));
         assert_eq!(read(b"\xfe\xff").unwrap_err(), format!("unknown word '\\xfe\\xff': {expected}"));
         assert_eq!(error("bind 1 AB"), "unknown word 'bind': it is written Bind");
@@ -223,6 +235,7 @@ mod tests {
         assert_eq!(error("Bind 1"), "name missing: expected Bind PORT NAME [MAP]");
         assert_eq!(error("Bind"), "port missing: expected Bind PORT NAME [MAP]");
         assert_eq!(error("SlotMap AB"), "codes missing: expected SlotMap NAME CODES");
+        assert_eq!(error("secs"), "message missing: expected secs HEX");
         assert_eq!(error("setup 1"), "number of buffer places missing: expected setup P B");
         assert_eq!(error("in 1 1 0 4142"), "codes missing: expected in NUMBER PORT VALUE NAME CODES");
     }
@@ -231,6 +244,7 @@ mod tests {
     fn words_too_many() {
         assert_eq!(error("Open AB # now"), "'#' is one word too many: expected Open NAME");
         assert_eq!(error("Bind 1 AB - -"), "'-' is one word too many: expected Bind PORT NAME [MAP]");
+        assert_eq!(error("secs 01 00"), "'00' is one word too many: expected secs HEX");
         assert_eq!(error("dump 1"), "'1' is one word too many: expected dump");
         assert_eq!(error("waiting 1"), "'1' is one word too many: expected waiting");
         assert_eq!(error("setup 1 0 0"), "'0' is one word too many: expected setup P B");
@@ -246,6 +260,7 @@ mod tests {
         assert_eq!(error("setup two 0"), "ports: 'two' is not a number from 0 to 4294967295");
         assert_eq!(error("ChangeAccess 1 AUTO"), "access: 'AUTO' is not a number from 0 to 4294967295");
         assert_eq!(error("in 1 1 0 AB1 -"), "name: 'AB1' is not pairs of hex digits, or - for none");
+        assert_eq!(error("secs 010"), "message: '010' is not pairs of hex digits, or - for none");
         assert!(error("SlotMap AB 333").starts_with("codes: '333' is not 25 digits, one for each slot, or"));
         assert!(error("Bind 1 AB 333").starts_with("map: '333' is not 25 digits, one for each slot, or"));
     }

@@ -102,7 +102,7 @@ odd_bytes() {
     printf 'setup 0\n1  none\n1  none\n1  none\n' | want 0
     printf 'setup 1 0\nBind 1 A\377\nOpen \303\050\nOpen A\000B\n' | play
     outcome "names that aren't UTF-8"
-    expected="expected setup, in, dump, state, waiting or an input's name such as Bind"
+    expected="expected setup, in, secs, dump, state, waiting or an input's name such as Bind"
     printf 'setup 0\n' | want 2 "hawsermole: line 2: unknown word '\\xfe\\xff\\x00': $expected"
     printf 'setup 1 0\n\376\377\000\n' | play
     outcome "a word that isn't UTF-8"
