@@ -7,9 +7,11 @@
 //! - P1, slot maps the tool can judge: `maps`.
 //! - P4, names padded with blanks: [`names`].
 //! - P2, is anyone waiting: [`waiting`], which is asked of a table of records and not of a tool.
+//! - P3, SECS-II from the host bridge: [`secs`], which gives the tool an input.
 
 mod maps;
 pub mod names;
+pub mod secs;
 mod waiting;
 
 use crate::report::Touched;
