@@ -41,7 +41,7 @@ fn kept_map(t: &Tool, name: &[u8]) -> Option<[u8; MAP_LEN]> {
 }
 
 /// A map of 1 and 3. Many tools send the same few, so these come often.
-fn expected_map(rng: &mut Rng) -> Vec<u8> {
+pub(super) fn expected_map(rng: &mut Rng) -> Vec<u8> {
     let mut map = match rng.below(6) {
         0 => std::vec![1; MAP_LEN],
         1 | 2 => std::vec![3; MAP_LEN],

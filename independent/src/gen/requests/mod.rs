@@ -2,6 +2,7 @@
 
 mod maps;
 mod names;
+pub mod secs;
 mod tables;
 
 use std::string::String;
