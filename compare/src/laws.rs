@@ -4,7 +4,7 @@ use independent::gen::{unpadded, Input};
 use independent::requests::Tool;
 use independent::Plain;
 
-use crate::machine::Outcome;
+use crate::machine::{Bridged, Outcome};
 use crate::pairs::may_answer;
 use crate::script::tabled;
 
@@ -71,4 +71,25 @@ fn badly_judged(before: &Tool, input: &Input, o: &Outcome) -> Option<String> {
     let status = if equal { 3 } else { 2 };
     let reports = format!("6 {} 1>{status}", String::from_utf8_lossy(name));
     (tabled(&o.reports) != reports).then(|| format!("the slot map is judged by the one expected: {reports}"))
+}
+
+/// P3: why what both say of a message is against the documents, whatever the message.
+pub fn misread(before: &Tool, message: &[u8], b: &Bridged) -> Option<String> {
+    let (o, heard) = (&b.outcome, &b.heard);
+    if !matches!(o.answer, 0..=8 | 20..=26) {
+        return Some(format!("a message has no answer {}", o.answer));
+    }
+    if heard.items > 128 {
+        return Some("at most 128 items".into());
+    }
+    let zeros = o.reports.bytes().iter().all(|&byte| byte == 0);
+    if !o.accepted() && (!zeros || o.tool.bytes() != before.bytes()) {
+        return Some("a refusal changes no state and leaves no report".into());
+    }
+    let stopped = match o.answer {
+        20..=24 => heard.at <= message.len(),
+        25 => heard.at < message.len(),
+        _ => heard.at == message.len(),
+    };
+    (!stopped).then(|| "20 to 24 stop at an item, 25 before the end, the others at the end".into())
 }

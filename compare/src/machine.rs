@@ -2,7 +2,7 @@
 
 use hawsermole::raw::{self, REPORTS_BYTES, TOOL_BYTES};
 use independent::gen::Input;
-use independent::requests::{self, Tool};
+use independent::requests::{self, secs, Tool};
 use independent::{Plain, Reports};
 
 pub trait Machine {
@@ -11,6 +11,18 @@ pub trait Machine {
     fn sound(&self, tool: &Tool) -> u32;
     /// How many bytes of a text are its name; 0 where there is none.
     fn name(&self, text: &[u8]) -> u32;
+    /// Reads a message and gives the tool what it asks for.
+    fn secs(&self, tool: &mut Tool, message: &[u8], reports: &mut Reports) -> Heard;
+}
+
+/// What is said of a message.
+#[derive(Clone, Copy, Debug, PartialEq, Eq)]
+pub struct Heard {
+    /// The reader's refusal, or the tool's answer.
+    pub answer: u32,
+    pub items: u32,
+    /// Where the reading stopped.
+    pub at: usize,
 }
 
 /// The proved machine, as the archive holds it.
@@ -43,6 +55,13 @@ impl Machine for Proved {
     fn name(&self, text: &[u8]) -> u32 {
         raw::name_length(text) as u32
     }
+
+    fn secs(&self, tool: &mut Tool, message: &[u8], reports: &mut Reports) -> Heard {
+        let mut items = u32::MAX;
+        // SAFETY: the sizes agree.
+        let answer = unsafe { raw::secs_step(lent(tool), lent(reports), message, &mut items) };
+        Heard { answer, items, at: raw::secs_at(message) }
+    }
 }
 
 /// The bytes of a struct, to be written in place.
@@ -68,6 +87,12 @@ impl Machine for Independent {
 
     fn name(&self, text: &[u8]) -> u32 {
         requests::names::name_of(text).map_or(0, |name| name.len() as u32)
+    }
+
+    fn secs(&self, tool: &mut Tool, message: &[u8], reports: &mut Reports) -> Heard {
+        let secs::SecsAnswer { refusal, items, answer } = secs::secs_step(tool, message, reports);
+        let at = secs::read(message).items().last().map_or(0, |item| item.data().end);
+        Heard { answer: answer.unwrap_or(refusal), items, at }
     }
 }
 
@@ -102,6 +127,20 @@ pub fn outcome(machine: &dyn Machine, tool: &Tool, input: &Input) -> Outcome {
     o
 }
 
+/// Everything that a message gives.
+#[derive(Clone)]
+pub struct Bridged {
+    pub outcome: Outcome,
+    pub heard: Heard,
+}
+
+pub fn bridged(machine: &dyn Machine, tool: &Tool, message: &[u8]) -> Bridged {
+    let mut outcome = Outcome { answer: 0, tool: *tool, reports: left_over() };
+    let heard = machine.secs(&mut outcome.tool, message, &mut outcome.reports);
+    outcome.answer = heard.answer;
+    Bridged { outcome, heard }
+}
+
 pub fn set_up(machine: &dyn Machine, ports: u32, places: u32) -> (u32, Tool) {
     let mut tool = left_over();
     let answer = machine.setup(ports, places, &mut tool);
@@ -134,5 +173,10 @@ impl Both<'_> {
     pub fn name(&self, text: &[u8]) -> Option<u32> {
         let length = self.proved.name(text);
         (length == self.independent.name(text)).then_some(length)
+    }
+    pub fn secs(&self, tool: &Tool, message: &[u8]) -> Option<Bridged> {
+        let one = bridged(self.proved, tool, message);
+        let other = bridged(self.independent, tool, message);
+        (one.heard == other.heard && one.outcome.same(&other.outcome)).then_some(one)
     }
 }

@@ -2,7 +2,8 @@
 //! all seven report entries and the count, byte for byte. A difference is shown by the shortest script that shows
 //! it, and ends the comparison with status 1.
 //!
-//! `compare [N]`: some N inputs in each of the large parts; 100,000 where no N is given.
+//! `compare [N]`: some N inputs in each of the large parts; 100,000 where no N is given. Messages are a fifth of N up to
+//! 100,000, and N beyond.
 
 mod laws;
 mod machine;
@@ -21,9 +22,10 @@ use independent::gen::Rng;
 use machine::{Both, Independent, Proved};
 use pairs::{allowed, Pairs};
 use parts::damaged::Damage;
+use parts::messages::Messages;
 use parts::names::Texts;
 use parts::waiting::{Looks, Tables};
-use parts::{damaged, edges, maps, names, odd, runs, setups, states, twelve, waiting};
+use parts::{damaged, edges, maps, messages, names, odd, runs, setups, states, twelve, waiting};
 use play::{Finding, Tally};
 
 const SEED: u64 = 20_870_312;
@@ -70,6 +72,7 @@ struct Table {
     padded: [u64; 2],
     texts: Texts,
     tables: Tables,
+    messages: Messages,
 }
 
 impl Table {
@@ -109,10 +112,19 @@ impl Table {
         println!("{compared} texts were given to the name check alone, {names} of them have a name");
         let Tables { compared, waiting } = self.tables;
         println!("{compared} tables were searched for a carrier that waits for the host, {waiting} of them have one");
+        let unmet = self.messages.unmet();
+        if !unmet.is_empty() {
+            println!("NOT MET among the messages: {}", unmet.join(", "));
+        }
+        let Messages { compared, ordered, .. } = self.messages;
+        println!(
+            "{compared} messages were read and stepped, {ordered} of them from an input; answers {}",
+            self.messages
+        );
         let (met, all, inputs) = (self.along_runs.met(), allowed(), self.inputs);
         println!("{met} of {all} pairs of row and answer met along the runs; {inputs} inputs compared, no difference");
         let shown = !self.at_once.contains(&0) && !self.padded.contains(&0);
-        if missing.is_empty() && self.runs_accepted >= LEAST_ACCEPTED && shown {
+        if missing.is_empty() && self.runs_accepted >= LEAST_ACCEPTED && shown && unmet.is_empty() {
             ExitCode::SUCCESS
         } else {
             ExitCode::FAILURE
@@ -145,5 +157,7 @@ fn compare(both: &Both, looks: &Looks, total: u64) -> Result<Table, Finding> {
     table.damage("random bytes", &damaged::random_bytes(both, total / 8, &mut rng)?);
     table.line("odd numbers, names and codes", &odd::compare(both, total / 2, &mut rng)?);
     table.tables = waiting::compare(looks, total, &mut rng)?;
+    let messages = if total <= 100_000 { total / 5 } else { total };
+    table.messages = messages::compare(both, messages, &mut rng)?;
     Ok(table)
 }

@@ -19,6 +19,8 @@ pub enum Finding {
     Sound(Box<Tool>),
     /// The programs don't find the same name in a text.
     Name(Vec<u8>),
+    /// The programs differ on a message to a tool of any state.
+    Message(Box<Tool>, Vec<u8>),
     /// The programs agree, and the documents say otherwise.
     Document(Run, String),
     /// As `Document`, from a state that no run need reach.
@@ -27,6 +29,8 @@ pub enum Finding {
     NameLaw(Vec<u8>, String),
     /// The programs don't find the same carrier of a table, or are both against the documents: in words.
     Table(String),
+    /// As `Document`, of a message.
+    MessageLaw(Box<Tool>, Vec<u8>, String),
 }
 
 /// How many inputs were compared, how many of them were accepted, which pairs were met, how many slot maps

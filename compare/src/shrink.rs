@@ -241,15 +241,20 @@ pub fn smallest(tool: &Tool, differs: impl Fn(&Tool) -> bool) -> Tool {
     best
 }
 
-/// A text without the bytes that can be left out, and with an A for each that can be one.
+/// A text without the bytes that can be left out, many at a time and then singly, and with an A for each that can be
+/// one.
 pub fn shortest_text(text: &[u8], differs: impl Fn(&[u8]) -> bool) -> Vec<u8> {
     let mut best = text.to_vec();
-    for at in (0..best.len()).rev() {
-        let mut candidate = best.clone();
-        candidate.remove(at);
-        if differs(&candidate) {
-            best = candidate;
+    let mut size = best.len().div_ceil(2);
+    while size > 0 {
+        for at in (0..best.len().div_ceil(size)).rev().map(|stretch| stretch * size) {
+            let mut candidate = best.clone();
+            candidate.drain(at..(at + size).min(best.len()));
+            if differs(&candidate) {
+                best = candidate;
+            }
         }
+        size /= 2;
     }
     for at in 0..best.len() {
         let was = std::mem::replace(&mut best[at], b'A');

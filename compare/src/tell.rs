@@ -6,7 +6,7 @@ use independent::gen::Input;
 use independent::requests::Tool;
 use independent::Plain;
 
-use crate::machine::{outcome, set_up, Both, Outcome};
+use crate::machine::{bridged, outcome, set_up, Both, Bridged, Outcome};
 use crate::play::Finding;
 use crate::script::{bytes, field, hex, line, printed, Run};
 use crate::shrink::{plainest, shortest, shortest_text, smallest};
@@ -17,6 +17,7 @@ pub fn tell(both: &Both, finding: &Finding) -> String {
         Finding::State(tool, input) => tell_state(both, tool, input),
         Finding::Sound(tool) => tell_sound(both, tool),
         Finding::Name(text) => tell_name(both, text),
+        Finding::Message(tool, message) => tell_message(both, tool, message),
         Finding::Document(run, why) => {
             format!("BOTH ARE AGAINST THE DOCUMENTS: {why}. The script:\n{}", shortest(both, run).script())
         }
@@ -27,6 +28,10 @@ pub fn tell(both: &Both, finding: &Finding) -> String {
             format!("BOTH ARE AGAINST THE DOCUMENTS: {why}. The text:\n{}\n", hex(text))
         }
         Finding::Table(told) => told.clone(),
+        Finding::MessageLaw(tool, message, why) => {
+            let (state, message) = (bytes(tool), hex(message));
+            format!("BOTH ARE AGAINST THE DOCUMENTS: {why}. From the state\n{state}secs {message}\n")
+        }
     }
 }
 
@@ -76,6 +81,17 @@ fn tell_name(both: &Both, text: &[u8]) -> String {
         name(both.proved.name(&text)),
         name(both.independent.name(&text)),
     )
+}
+
+fn tell_message(both: &Both, tool: &Tool, message: &[u8]) -> String {
+    let message = shortest_text(message, |message| both.secs(tool, message).is_none());
+    let tool = smallest(tool, |tool| both.secs(tool, &message).is_none());
+    let (one, other) = (bridged(both.proved, &tool, &message), bridged(both.independent, &tool, &message));
+    let read = |b: &Bridged| format!("{} items, read to {}", b.heard.items, b.heard.at);
+    let mut out = String::from("DIFFERENT. From the state of these bytes:\n");
+    let _ = write!(out, "{}the message\nsecs {}\n", bytes(&tool), hex(&message));
+    let _ = writeln!(out, "proved       {}\nindependent  {}", read(&one), read(&other));
+    out + &answers(&one.outcome, &other.outcome)
 }
 
 fn answers(proved: &Outcome, independent: &Outcome) -> String {

@@ -1,6 +1,7 @@
 //! Programs that are wrong on purpose, and the scripts that must be found for them.
 
 mod wrong_maps;
+mod wrong_messages;
 mod wrong_names;
 
 use independent::gen::requests::random_run_input;
@@ -8,8 +9,8 @@ use independent::gen::{Input, Rng};
 use independent::requests::Tool;
 use independent::{Report, Reports};
 
-use crate::machine::{Both, Independent, Machine, Outcome};
-use crate::parts::{damaged, edges, maps, names, odd, runs, setups, states, twelve};
+use crate::machine::{Both, Bridged, Heard, Independent, Machine, Outcome};
+use crate::parts::{damaged, edges, maps, messages, names, odd, runs, setups, states, twelve};
 use crate::play::{Finding, Player, Tally};
 use crate::script::Run;
 use crate::shrink::{differs_after, shortest};
@@ -39,6 +40,10 @@ impl<F: Fn(&Tool, &Input, &mut Outcome)> Machine for Faulty<F> {
     fn name(&self, text: &[u8]) -> u32 {
         Independent.name(text)
     }
+
+    fn secs(&self, tool: &mut Tool, message: &[u8], reports: &mut Reports) -> Heard {
+        Independent.secs(tool, message, reports)
+    }
 }
 
 /// The independent program, which takes what it is given for something else.
@@ -47,11 +52,17 @@ struct Mistaken {
     input: fn(&Input) -> Input,
     tool: fn(&Tool) -> Tool,
     text: fn(&[u8]) -> Vec<u8>,
+    message: fn(&[u8]) -> Vec<u8>,
 }
 
 impl Mistaken {
-    const IN_NOTHING: Mistaken =
-        Mistaken { ports: |ports| ports, input: Input::clone, tool: |tool| *tool, text: <[u8]>::to_vec };
+    const IN_NOTHING: Mistaken = Mistaken {
+        ports: |ports| ports,
+        input: Input::clone,
+        tool: |tool| *tool,
+        text: <[u8]>::to_vec,
+        message: <[u8]>::to_vec,
+    };
 }
 
 impl Machine for Mistaken {
@@ -69,6 +80,10 @@ impl Machine for Mistaken {
 
     fn name(&self, text: &[u8]) -> u32 {
         Independent.name(&(self.text)(text))
+    }
+
+    fn secs(&self, tool: &mut Tool, message: &[u8], reports: &mut Reports) -> Heard {
+        Independent.secs(tool, &(self.message)(message), reports)
     }
 }
 
@@ -167,6 +182,7 @@ fn first_finding(both: &Both) -> Option<Finding> {
         damaged::mixed_up(both, 2_000, &mut rng)?;
         damaged::random_bytes(both, 2_000, &mut rng)?;
         odd::compare(both, 20_000, &mut rng)?;
+        messages::compare(both, 5_000, &mut rng)?;
         Ok(())
     };
     all().err()

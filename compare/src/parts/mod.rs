@@ -3,6 +3,7 @@
 pub mod damaged;
 pub mod edges;
 pub mod maps;
+pub mod messages;
 pub mod names;
 pub mod odd;
 pub mod runs;

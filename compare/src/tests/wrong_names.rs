@@ -23,6 +23,10 @@ fn mistaken(name: fn(&Input) -> Vec<u8>) -> Run {
         fn name(&self, text: &[u8]) -> u32 {
             Independent.name(text)
         }
+
+        fn secs(&self, tool: &mut Tool, message: &[u8], reports: &mut Reports) -> Heard {
+            Independent.secs(tool, message, reports)
+        }
     }
 
     let both = Both { proved: &Reader(name), independent: &Independent };
