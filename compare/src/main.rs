@@ -2,8 +2,8 @@
 //! all seven report entries and the count, byte for byte. A difference is shown by the shortest script that shows
 //! it, and ends the comparison with status 1.
 //!
-//! `compare [N]`: some N inputs in each of the large parts; 100,000 where no N is given. Messages are a fifth of N up to
-//! 100,000, and N beyond.
+//! `compare [N]`: some N inputs in each of the large parts; 100,000 where no N is given. Messages are a fifth of N up
+//! to 100,000, and N beyond.
 
 mod laws;
 mod machine;

@@ -4,8 +4,8 @@ C_FILES = include/hawsermole.h $(wildcard tests/c/*.h) $(ARCHIVE)
 SANITIZE = -fsanitize=address,undefined -fno-sanitize-recover=all -fno-omit-frame-pointer
 SANITIZED = gcc -std=c99 $(CFLAGS_C) $(SANITIZE)
 
-SANITIZED_PROGRAMS = firmware names secs waiting callers
-C_PROGRAMS = header-c99 header-c11 header-c++17 twelve maps names secs waiting firmware callers stack
+SANITIZED_PROGRAMS = firmware host_bridge names secs waiting callers
+C_PROGRAMS = header-c99 header-c11 header-c++17 twelve maps names secs waiting firmware host_bridge callers stack
 
 c: cross $(C_PROGRAMS:%=target/c/%)
 	CC="$(CC)" tests/c/archive.sh $(ARCHIVE)
@@ -19,12 +19,16 @@ c: cross $(C_PROGRAMS:%=target/c/%)
 	$(EMULATOR) target/c/waiting
 	$(EMULATOR) target/c/firmware > target/c/firmware.txt
 	diff tests/c/firmware.txt target/c/firmware.txt
+	$(EMULATOR) target/c/host_bridge > target/c/host_bridge.txt
+	diff tests/c/host_bridge.txt target/c/host_bridge.txt
 	$(EMULATOR) target/c/callers $(CALLERS)
 	$(EMULATOR) target/c/stack
 
 sanitize: $(SANITIZED_PROGRAMS:%=target/c/%-sanitized)
 	target/c/firmware-sanitized > target/c/firmware-sanitized.txt
 	diff tests/c/firmware.txt target/c/firmware-sanitized.txt
+	target/c/host_bridge-sanitized > target/c/host_bridge-sanitized.txt
+	diff tests/c/host_bridge.txt target/c/host_bridge-sanitized.txt
 	target/c/names-sanitized
 	target/c/secs-sanitized
 	target/c/callers-sanitized $(CALLERS)
@@ -43,11 +47,12 @@ target/c/twelve target/c/maps target/c/names target/c/secs target/c/waiting targ
 	mkdir -p target/c
 	$(CC) -std=c99 $(CFLAGS_C) $< $(ARCHIVE) -Wl,-z,now -o $@
 
-target/c/firmware: examples/firmware.c $(C_FILES)
+target/c/firmware target/c/host_bridge: target/c/%: examples/%.c $(C_FILES)
 	mkdir -p target/c
 	$(CC) -std=c99 $(CFLAGS_C) $< $(ARCHIVE) -o $@
 
-target/c/firmware-sanitized: examples/firmware.c $(C_FILES) $(NATIVE)/libhawsermole.a
+target/c/firmware-sanitized target/c/host_bridge-sanitized: target/c/%-sanitized: examples/%.c $(C_FILES) \
+		$(NATIVE)/libhawsermole.a
 	mkdir -p target/c
 	$(SANITIZED) $< $(NATIVE)/libhawsermole.a -o $@
 

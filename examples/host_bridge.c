@@ -1,0 +1,124 @@
+/*
+ * A host bridge on Hawsermole: the host's S3F17 comes as the text of the message, the sensors' inputs come as they are.
+ * A message is read where it stands; what it asks for is stepped. No heap.
+ */
+#include <stdio.h>
+#include <string.h>
+
+#include "hawsermole.h"
+
+/* Items of SEMI E5 with one length byte: a list of n elements, a text of n bytes, numbers. */
+#define L(n) 0x01, n
+#define A(n) 0x41, n
+#define U1(value) 0xA5, 1, value
+#define U4(value) 0xB1, 4, 0, 0, 0, value
+#define F4(a, b, c, d) 0x91, 4, a, b, c, d
+
+#define BIND A(4), 'B', 'i', 'n', 'd'
+#define PROCEED A(18), 'P', 'r', 'o', 'c', 'e', 'e', 'd', 'W', 'i', 't', 'h', 'C', 'a', 'r', 'r', 'i', 'e', 'r'
+#define UNBIND A(6), 'U', 'n', 'b', 'i', 'n', 'd'
+#define SLOT_MAP A(7), 'S', 'l', 'o', 't', 'M', 'a', 'p'
+#define WEIGHT A(6), 'W', 'e', 'i', 'g', 'h', 't'
+#define FOUP_7 A(6), 'F', 'O', 'U', 'P', '-', '7'
+#define FOUP_8 A(6), 'F', 'O', 'U', 'P', '-', '8'
+#define FULL U1(3), U1(3), U1(3), U1(3), U1(3)
+
+/* Bind with the slot map that the host expects, and an attribute that is read and dropped. */
+static const uint8_t bind_7[] = {
+    L(5), U4(1), BIND, FOUP_7, U1(1),
+    L(2),
+        L(2), SLOT_MAP, L(25), FULL, FULL, FULL, FULL, U1(3), U1(3), U1(3), U1(1), U1(1),
+        L(2), WEIGHT, F4(0x40, 0xF0, 0x00, 0x00),
+};
+static const uint8_t wafers[HM_SLOTS] = {3, 3, 3, 3, 3, 3, 3, 3, 3, 3, 3, 3, 3, 3, 3, 3, 3, 3, 3, 3, 3, 3, 3, 1, 1};
+
+static const uint8_t bind_8[] = {L(5), U4(2), BIND, FOUP_8, U1(2), L(0)};
+static const uint8_t proceed_8[] = {L(5), U4(3), PROCEED, FOUP_8, U1(0), L(0)};
+static const uint8_t unbind_8[] = {L(5), U4(4), UNBIND, FOUP_8, U1(2), L(0)};
+
+static const char *const not_understood[] = {
+    "cut short",
+    "unknown format code",
+    "no length byte, or a length no multiple of the element size",
+    "too deep",
+    "too many items",
+    "bytes left over",
+    "another shape or action",
+};
+
+static hm_tool tool;
+static hm_reports reports;
+
+/* A real bridge sends an event to the host here. */
+static void tell(void)
+{
+    unsigned i;
+    for (i = 0; i < reports.count; i++) {
+        const hm_report *r = &reports.items[i];
+        if (r->model <= HM_MODEL_TIE) {
+            printf("    model %u, port %u: %u to %u\n", r->model, r->port, r->old_state, r->new_state);
+        } else {
+            printf("    model %u, carrier %.*s: %u to %u\n", r->model, HM_NAME_BYTES, (const char *)r->name,
+                   r->old_state, r->new_state);
+        }
+    }
+}
+
+/* The text of an S3F17, without the ten bytes of HSMS header before it. */
+static void from_host(const char *what, const uint8_t *text, uint64_t length)
+{
+    uint32_t items;
+    uint32_t answer = hm_secs_step(&tool, &reports, text, length, &items);
+
+    if (answer >= HM_REFUSED_CUT_SHORT) {
+        /* No input was given: the tool is as it was. The place is for the log. */
+        printf("%s: %u, %s, after %u items, at byte %u\n", what, (unsigned)answer,
+               not_understood[answer - HM_REFUSED_CUT_SHORT], (unsigned)items, (unsigned)hm_secs_at(text, length));
+    } else if (answer != HM_ACCEPTED) {
+        printf("%s: %u items read, refused by the tool with %u\n", what, (unsigned)items, (unsigned)answer);
+    } else {
+        printf("%s: %u items read, accepted\n", what, (unsigned)items);
+        tell();
+    }
+}
+
+static void from_tool(const char *what, uint32_t number, uint32_t port, const char *name, const uint8_t *codes,
+                      uint64_t codes_length)
+{
+    uint32_t answer =
+        hm_step(&tool, &reports, number, port, 0, (const uint8_t *)name, strlen(name), codes, codes_length);
+
+    printf("%s: %u\n", what, (unsigned)answer);
+    tell();
+}
+
+static void arrives(const char *what, uint32_t port, const char *name)
+{
+    from_tool("LoadStart", HM_INPUT_LOAD_START, port, "", HM_NOTHING, 0);
+    from_tool("LoadDone", HM_INPUT_LOAD_DONE, port, "", HM_NOTHING, 0);
+    from_tool(what, HM_INPUT_ID_READ, port, name, HM_NOTHING, 0);
+}
+
+int main(void)
+{
+    if (hm_tool_size() != sizeof tool || hm_reports_size() != sizeof reports) {
+        fprintf(stderr, "the archive and hawsermole.h are not of the same version\n");
+        return 1;
+    }
+    if (hm_setup(&tool, 2, 0) != HM_ACCEPTED) {
+        return 1;
+    }
+
+    from_host("S3F17 Bind FOUP-7 with SlotMap", bind_7, sizeof bind_7);
+    arrives("IdRead FOUP-7", 1, "FOUP-7");
+    from_tool("Open FOUP-7", HM_INPUT_OPEN, 0, "FOUP-7", HM_NOTHING, 0);
+    from_tool("SlotMap, as expected", HM_INPUT_SLOT_MAP, 0, "FOUP-7", wafers, sizeof wafers);
+
+    from_host("S3F17 Bind FOUP-8, cut", bind_8, sizeof bind_8 - 3);
+    from_host("S3F17 Bind FOUP-8", bind_8, sizeof bind_8);
+    from_host("S3F17 Bind FOUP-8 again", bind_8, sizeof bind_8);
+    arrives("IdRead of another pod", 2, "FOUP-9");
+    from_host("S3F17 ProceedWithCarrier FOUP-8", proceed_8, sizeof proceed_8);
+    from_host("S3F17 Unbind FOUP-8", unbind_8, sizeof unbind_8);
+    return 0;
+}
