@@ -1,7 +1,8 @@
 #!/usr/bin/env bash
 # Instructions of one input to the proved machine (one call of hm_step, all that it calls included):
 # the mean over a mix, the worst input, and how both grow with the number of live carriers; those of the name check,
-# hm_name, for texts of some lengths; and those of one frame of a panel, hm_waiting.
+# hm_name, for texts of some lengths; those of one frame of a panel, hm_waiting; and those of the bridge, hm_secs_step,
+# for messages of some kinds.
 #
 #   bench/instructions.sh [PROGRAM]    the release build of this folder; target/release/bench if none is given
 #
@@ -132,6 +133,18 @@ print_frame() {
     done <"$work/frames"
 }
 
+print_messages() {
+    local count bytes items answer carriers kind function=hm_secs_step
+    echo
+    echo "one message from the host bridge, to no tool and to one that accepts a Bind"
+    counted messages >"$work/now"
+    while read -r count bytes items answer carriers kind; do
+        printf '  %6s   %5s bytes, %3s items, answered %2s, %2s live carriers: %s\n' \
+            "$count" "$bytes" "$items" "$answer" "$carriers" "$kind"
+    done <"$work/now"
+    printf '  most %6s\n' "$(most <"$work/now")"
+}
+
 if [ ! -x "$program" ]; then
     echo "no program $program: build it first (cargo build --release in bench)" >&2
     exit 2
@@ -142,3 +155,4 @@ print_worst
 print_growth
 print_names
 print_frame
+print_messages

@@ -3,6 +3,7 @@
 
 mod frame;
 mod machine;
+mod messages;
 mod mix;
 mod play;
 mod states;
@@ -11,13 +12,15 @@ mod time;
 use std::process::ExitCode;
 
 const USAGE: &str = "\
-usage: bench time [N [ROUNDS]]         time per frame, and per input of N mixed inputs; the last line is their ratio
+usage: bench time [N [ROUNDS]]         time per message and frame, and per input of N mixed inputs; the last line is the
+                                       ratio of the inputs
        bench play N CARRIERS           plays N mixed inputs near so many live carriers to the proved machine
        bench play N CARRIERS INPUT     plays one input, by its document 01 name or number, from N prepared states
        bench search N CARRIERS         plays every row in turn, accepted and refused, from N prepared states
        bench unsound N CARRIERS        plays every row in turn from N states that aren't sound
        bench names                     gives texts of some lengths to the name check
        bench frame                     asks whether anyone waits, of 36 records: none does, and the first does
+       bench messages                  gives messages of some kinds to the bridge
 N and ROUNDS from 1, CARRIERS from 0 to 36";
 
 fn number(word: &str, from: usize, to: usize) -> Option<usize> {
@@ -36,6 +39,7 @@ fn run(words: &[&str]) -> Option<Result<(), String>> {
         ["play", n, c, input] => play::one_row(play::row_of(input)?, count(n)?, carriers(c)?),
         ["search", n, c] => play::search(count(n)?, carriers(c)?),
         ["names"] => play::names(),
+        ["messages"] => messages::play(),
         ["unsound", n, c] => play::unsound(count(n)?, carriers(c)?),
         ["frame"] => frame::play(),
         _ => return None,
