@@ -86,4 +86,4 @@ texts=$(cat "$work/count")
 "$@" "$work/texts" >"$work/got" || fail "the command line can't read the table of texts"
 same "the table of texts" "$work/wanted" "$work/got"
 
-echo "quotes: $(grep -c . "$work/typed") lines played, $run C program run, the name check and $texts texts: as the manual says"
+echo "quotes: $(grep -c . "$work/typed") lines played, $run C programs run, the name check and $texts texts: as the manual says"

@@ -27,8 +27,8 @@ fn ready(carriers: usize) -> Tool {
     }
 }
 
-/// Times a message with SlotMap: to no tool, which is the reading and a look at the tool, and to one that accepts it and
-/// is made anew for each. Fails where the programs differ.
+/// Times a message with SlotMap: to no tool, which is the reading and a look at the tool, and to one that accepts it.
+/// Fails where the programs differ.
 pub fn time(count: usize, rounds: usize) -> Result<(), String> {
     let message = slot_map_message();
     println!("{count} times a message with SlotMap, {} bytes", message.len());
