@@ -54,16 +54,21 @@ def with_use(lines, module, name):
     raise ValueError(f"no use of {module}")
 
 
-WRITTEN = re.compile(r"(0x[0-9A-Fa-f_]+|[0-9_]+)(.*)")
+WRITTEN = re.compile(r"(0x[0-9A-Fa-f_]+|0o[0-7_]+|[0-9_]+)(.*)")
+# how a number begins: its base, and the letter that writes it
+BASES = {"0x": (16, "X"), "0o": (8, "o")}
 
 
 def numbers(tok):
     """n + 1 and n - 1, written as n was."""
     digits, suffix = WRITTEN.fullmatch(tok.text).groups()
-    value = int(digits, 16 if digits.startswith("0x") else 10)
+    start = digits[:2] if digits[:2] in BASES else ""
+    base, letter = BASES.get(start, (10, "d"))
+    value = int(digits[len(start) :], base)
+    width = len(digits) - len(start) if start else 1
     for other in (value + 1, value - 1):
         if other >= 0:
-            yield (f"0x{other:0{len(digits) - 2}X}" if digits.startswith("0x") else str(other)) + suffix
+            yield f"{start}{other:0{width}{letter}}{suffix}"
 
 
 def text_between(lines, first, last):

@@ -18,7 +18,7 @@ class Token:
 
 RATTLE = re.compile(
     r"""(?P<skip>\s+|//[^\n]*|b"(?:[^"\\]|\\.)*"|b'(?:[^'\\]|\\.)*')
-    |(?P<number>(?:0x[0-9A-Fa-f_]+|\d[\d_]*)(?:[ui](?:8|16|32|64|size))?)
+    |(?P<number>(?:0x[0-9A-Fa-f_]+|0o[0-7_]+|\d[\d_]*)(?:[ui](?:8|16|32|64|size))?)
     |(?P<word>[^\W\d]\w*)
     |(?P<sign>=>|->|==|!=|<=|>=|&&|\|\||\+=|-=|\*=|\.\.=|\.\.|::|.)""",
     re.VERBOSE,
@@ -26,7 +26,7 @@ RATTLE = re.compile(
 
 ANTT = re.compile(
     r"""(?P<skip>\s+|--[^\n]*)
-    |(?P<number>0x[0-9A-Fa-f]+|\d+)
+    |(?P<number>0x[0-9A-Fa-f]+|0o[0-7]+|\d+)
     |(?P<field>(?<=\s)\.[^\W\d]\w*)
     |(?P<word>[^\W\d](?:[\w'·]|-(?=\w))*)
     |(?P<sign>&&|\|\||\+\+|\[\]|.)""",
