@@ -10,13 +10,15 @@ use Rattle.rules.specs.Row.{lower, lowest, enact, placed, unknownPod, foundOrNe
 use Rattle.rules.specs.Booking.{meant, meantPort, meantStands, onePair}
 use Rattle.rules.specs.Reading.{elsewhere, matching, displaced}
 use Rattle.rules.specs.Rows as base
+use Rattle.rules.specs.Named.{nameMissing}
 use Rattle.follow.specs.Follow.{followed}
 use Rattle.names.specs.Check.{remains, refused, shortened}
 use Rattle.maps.specs.Expected.{isExpected, equals, carries, newMap}
 use Rattle.maps.specs.Rows.{codesIn, rowOf}
 use Rattle.maps.specs.Outcome.{answerIn, stateAfter}
 use Rattle.maps.specs.Judged.{smooth, after}
-use Rattle.door.specs.Cases.{holds, cases}
+use Rattle.door.specs.Door.{mayPad, mayPadRun}
+use Rattle.door.specs.Cases.{holds, cases, padsHold, paddings}
 
 pub all-cases : every holds cases ≡ true
 unfolding every any howMany whereIs without fill sameList isName inBytes sameName isMap inMap portOf recordOf narrow nameStands tieStands
@@ -24,3 +26,8 @@ unfolding every any howMany whereIs without fill sameList isName inBytes sameNam
     matching displaced base.rowOf followed remains refused shortened isExpected equals carries newMap codesIn rowOf answerIn stateAfter
     smooth after holds
 all-cases = refl
+
+-- and some runs may be padded, others not
+pub all-pads : every padsHold paddings ≡ true
+unfolding every nameMissing mayPad mayPadRun padsHold
+all-pads = refl

@@ -1,7 +1,7 @@
 -- Runs through the door: the shortened name is the one in record and comparison; only a length of zero is missing; a row that takes no
 -- name ignores it.
 use Prim.Native.Nat.{ℕ}
-use mathlib.Core.Bool.{Bool, _&&_}
+use mathlib.Core.Bool.{Bool, true, false, not, cond, _&&_}
 use mathlib.Core.List.{List, [], _∷_, _++_, map}
 use lib.ListN.{replicate}
 use lib.Dec.{eqb}
@@ -10,7 +10,7 @@ use Rattle.rules.specs.Inputs.{Bind, CancelBind, CarrierNotification, CancelCar
 use Rattle.maps.specs.State.{start}
 use Rattle.maps.specs.Outcome.{answerIn}
 use Rattle.maps.specs.Judged.{smooth, after}
-use Rattle.door.specs.Door.{shown}
+use Rattle.door.specs.Door.{shown, mayPadRun}
 
 -- A run of inputs that are accepted, and one more with its answer.
 pub record Case : Type 0 where
@@ -58,4 +58,28 @@ cases =
     -- a row that takes no name ignores it, however bad
     ∷ case [] (inputOf 13 1 0 (blanks 1 ++ AB) []) 0
     ∷ case [] (inputOf 13 1 0 (replicate 40 0) []) 0
+    ∷ []
+
+-- ── What may be padded: any name within 32 bytes, a bad one too, but none that is missing ──
+pub record Pads : Type 0 where
+  pub blanks : List ℕ
+  pub run : List Input
+  pub may : Bool
+
+abbrev pads : List ℕ → List Input → Bool → Pads
+pads blanks run may = record { blanks = blanks; run = run; may = may }
+
+unfoldable pub padsHold : Pads → Bool
+padsHold p = cond (p .may) (mayPadRun (p .blanks) (p .run)) (not (mayPadRun (p .blanks) (p .run)))
+
+abbrev pub paddings : List Pads
+paddings =
+    pads [] (CarrierNotification AB ∷ []) true
+    ∷ pads (30 ∷ []) (CarrierNotification AB ∷ []) true
+    ∷ pads (31 ∷ []) (CarrierNotification AB ∷ []) false
+    ∷ pads (2 ∷ []) (CarrierNotification (blanks 1 ++ AB) ∷ []) true
+    ∷ pads (0 ∷ 2 ∷ []) (CancelBind 1 [] ∷ Bind 1 AB ∷ LoadStart 1 ∷ []) true
+    ∷ pads (1 ∷ 2 ∷ []) (CancelBind 1 [] ∷ Bind 1 AB ∷ []) false
+    ∷ pads (2 ∷ 31 ∷ []) (Open AB ∷ Bind 1 AB ∷ []) false
+    ∷ pads (4 ∷ 4 ∷ []) (CarrierNotification [] ∷ []) true
     ∷ []
