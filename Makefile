@@ -3,6 +3,7 @@
 #   make bench          measures the figures of docs/FIGURES.md
 #   make compare N=..   compares the proved machine with the independent program on more inputs
 #   make diagrams       draws docs/diagrams again, from what the machine does
+#   make oldest         tests the Rust crate with the oldest Rust that it is for (fetches it from Debian's archive)
 #   make manual         docs/MANUAL.md as target/manual.pdf (needs pandoc, weasyprint and poppler-utils)
 include tools/host.mk
 
@@ -10,7 +11,7 @@ ARCHIVE = target/staticlib/libhawsermole.a
 N = 100000
 CALLERS = 50000
 
-.PHONY: all run test users bench library cross independent rust cli scenarios c sanitize compare diagrams pictures manual
+.PHONY: all run test users bench library cross independent rust oldest cli scenarios c sanitize compare diagrams pictures manual
 
 all: target/hawsermole
 
@@ -44,9 +45,15 @@ run: target/hawsermole
 independent:
 	cd independent && cargo test --offline --quiet
 
+# clippy knows since when Rust has each function that the crate calls, and holds it to its rust-version.
 rust: library cross
 	cd rust && $(CARGO) test --offline --quiet
+	if cargo clippy --version > /dev/null 2>&1; then cd rust && cargo clippy --offline --quiet --locked -- -D warnings; \
+	else echo "rust: no clippy here, so that nothing holds the crate to its rust-version"; fi
 	cd cli && $(CARGO) test --offline --quiet
+
+oldest: library cross
+	CC="$(CC)" EMULATOR="$(EMULATOR)" tools/oldest.sh
 
 cli: target/hawsermole
 	tests/cli/run.sh target/hawsermole

@@ -128,8 +128,8 @@ int main(void)
     unsigned accepted = 0;
     size_t i;
 
-    if (hm_tool_size() != sizeof tool || hm_reports_size() != sizeof reports) {
-        fprintf(stderr, "the archive and hawsermole.h are not of the same version\n");
+    if (hm_version() != HM_VERSION || hm_tool_size() != sizeof tool || hm_reports_size() != sizeof reports) {
+        fprintf(stderr, "the archive is of version %06x, hawsermole.h of %06x\n", (unsigned)hm_version(), HM_VERSION);
         return 1;
     }
     recover(); /* at start the battery-backed copy decides; here it is empty */

@@ -101,8 +101,8 @@ static void arrives(const char *what, uint32_t port, const char *name)
 
 int main(void)
 {
-    if (hm_tool_size() != sizeof tool || hm_reports_size() != sizeof reports) {
-        fprintf(stderr, "the archive and hawsermole.h are not of the same version\n");
+    if (hm_version() != HM_VERSION || hm_tool_size() != sizeof tool || hm_reports_size() != sizeof reports) {
+        fprintf(stderr, "the archive is of version %06x, hawsermole.h of %06x\n", (unsigned)hm_version(), HM_VERSION);
         return 1;
     }
     if (hm_setup(&tool, 2, 0) != HM_ACCEPTED) {

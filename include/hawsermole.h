@@ -7,7 +7,8 @@
  * The rules are document 01's, with document 02's requests P1, expected maps, P3, SECS-II from the host bridge,
  * P4, names padded with blanks, and P2: hm_waiting.
  * C99, C11 and C++17.
- * Link with libhawsermole.a; see examples/firmware.c and examples/host_bridge.c.
+ * Link with libhawsermole.a; see examples/firmware.c and examples/host_bridge.c. docs/LANDINGS.md is the list of
+ * changes.
  *
  * WHAT THE LIBRARY ANSWERS FOR
  * Every input is answered. The number, the port and the value may be any 32-bit number, the name, the codes and a
@@ -37,6 +38,9 @@
 extern "C" {
 #endif
 
+/* The version of this header, 0x00MMmmpp: 0.6.0. hm_version is the archive's; compare the two once at start. */
+#define HM_VERSION 0x000600
+
 /* Limits. */
 #define HM_PORTS 4                 /* a tool has 1 to 4 ports */
 #define HM_PLACES 16               /* and 0 to 16 buffer places; 0 means that pods open at the port */
@@ -64,7 +68,11 @@ extern "C" {
 #define HM_PORT_NOT_GIVEN 0
 
 /* For a name, codes or a message of length 0. */
+#ifdef __cplusplus
+#define HM_NOTHING (reinterpret_cast<const uint8_t *>(""))
+#else
 #define HM_NOTHING ((const uint8_t *)"")
+#endif
 
 /* The inputs, and the parts that each one reads; other parts are ignored. */
 enum hm_input {
@@ -311,7 +319,11 @@ uint32_t hm_sound(const hm_tool *tool);
  */
 uint32_t hm_waiting(const hm_carrier *carriers, uint64_t count, hm_found *found);
 
-/* sizeof(hm_tool) and sizeof(hm_reports) as the archive has them: compare once at start. */
+/*
+ * HM_VERSION, sizeof(hm_tool) and sizeof(hm_reports) as the archive has them: compare once at start. An archive of
+ * another version may lay a tool out otherwise, or write past the bytes that it is lent.
+ */
+uint32_t hm_version(void);
 uint32_t hm_tool_size(void);
 uint32_t hm_reports_size(void);
 

@@ -47,8 +47,5 @@ pub fn secs_step(
 }
 
 fn check_sizes() {
-    assert!(
-        raw::sizes_agree(),
-        "libhawsermole.a has other sizes than this crate: they are of different versions"
-    );
+    assert!(raw::sizes_agree(), "libhawsermole.a and this crate are of different versions");
 }

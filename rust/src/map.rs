@@ -89,8 +89,11 @@ impl fmt::Display for MapError {
             MapError::Length(length) => write!(f, "an expected map has {SLOTS} codes, not {length}"),
             MapError::Code { slot, code } => {
                 let [empty, occupied] = [EMPTY, CORRECTLY_OCCUPIED].map(slot_code);
-                let two = format_args!("{EMPTY} ({empty}) and {CORRECTLY_OCCUPIED} ({occupied})");
-                write!(f, "an expected map has the codes {two} alone, not {code} as at slot {slot}")
+                write!(
+                    f,
+                    "an expected map has the codes {EMPTY} ({empty}) and {CORRECTLY_OCCUPIED} ({occupied})"
+                )?;
+                write!(f, " alone, not {code} as at slot {slot}")
             }
         }
     }

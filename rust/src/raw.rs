@@ -14,6 +14,8 @@
 //! assert_eq!((answer, reports[0]), (0, 1));
 //! ```
 
+/// The version of this crate as a number, 0x00MMmmpp; `HM_VERSION` of the header.
+pub const VERSION: u32 = 0x000600;
 /// How many bytes a tool has.
 pub const TOOL_BYTES: usize = 3782;
 /// How many bytes the reports of an input have.
@@ -23,6 +25,8 @@ pub const CARRIER_BYTES: usize = 50;
 
 // `include/hawsermole.h` says what each gives.
 unsafe extern "C" {
+    /// The archive's version; [`VERSION`] is this crate's.
+    pub safe fn hm_version() -> u32;
     /// The bytes of a tool, as the archive has them.
     pub safe fn hm_tool_size() -> u32;
     /// The bytes of the reports, as the archive has them.
@@ -59,9 +63,10 @@ unsafe extern "C" {
     ) -> u32;
 }
 
-/// Whether the archive has the sizes of this crate. One of another version could write past the bytes that it is lent.
+/// Whether the archive has the version of this crate, and so its sizes, which are compared all the same. One of another
+/// version could write past the bytes that it is lent.
 pub fn sizes_agree() -> bool {
-    (hm_tool_size(), hm_reports_size()) == (TOOL_BYTES as u32, REPORTS_BYTES as u32)
+    (hm_version(), hm_tool_size(), hm_reports_size()) == (VERSION, TOOL_BYTES as u32, REPORTS_BYTES as u32)
 }
 
 /// How many bytes of a text, from its first, are its name, 1 to 16; 0 where the text is refused.
@@ -143,7 +148,8 @@ mod tests {
     use super::*;
 
     #[test]
-    fn the_archive_has_our_sizes() {
+    fn the_archive_has_our_version_and_sizes() {
+        assert_eq!(hm_version(), VERSION);
         assert_eq!(hm_tool_size() as usize, TOOL_BYTES);
         assert_eq!(hm_reports_size() as usize, REPORTS_BYTES);
         assert!(sizes_agree());

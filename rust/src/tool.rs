@@ -186,8 +186,10 @@ impl Tool {
 
     /// The records of [`carriers`](Tool::carriers) as the tool holds them, in bytes.
     pub fn records(&self) -> &[[u8; CARRIER_BYTES]] {
-        let (records, _) = self.bytes[CARRIERS_START..MAPS_START].as_chunks();
-        &records[..usize::from(self.bytes[2]).min(RECORDS)]
+        let count = usize::from(self.bytes[2]).min(RECORDS);
+        let bytes = &self.bytes[CARRIERS_START..][..count * CARRIER_BYTES];
+        // SAFETY: just so many records lie in these bytes, one after the other, and an array of bytes has no alignment.
+        unsafe { core::slice::from_raw_parts(bytes.as_ptr().cast(), count) }
     }
 
     /// Is anyone waiting? The first of [`carriers`](Tool::carriers) that waits for the host, by ID or by slot map.
@@ -229,8 +231,8 @@ impl Tool {
 
     /// The carriers whose records have an expected map, in the order of [`carriers`](Tool::carriers), with its codes.
     pub fn expected_maps(&self) -> impl Iterator<Item = (Name, &[u8; SLOTS])> {
-        let (maps, _) = self.bytes[MAPS_START..].as_chunks();
-        let given = self.carriers().zip(maps).filter(|(_, map)| **map != [0; SLOTS]);
+        let maps = self.bytes[MAPS_START..].chunks_exact(SLOTS).filter_map(|map| map.try_into().ok());
+        let given = self.carriers().zip(maps).filter(|(_, map)| *map != &[0; SLOTS]);
         given.map(|(carrier, map)| (carrier.name, map))
     }
 }
@@ -239,10 +241,23 @@ impl fmt::Debug for Tool {
     fn fmt(&self, f: &mut fmt::Formatter<'_>) -> fmt::Result {
         f.debug_struct("Tool")
             .field("places", &self.places())
-            .field("ports", &fmt::from_fn(|f| f.debug_list().entries(self.ports()).finish()))
-            .field("carriers", &fmt::from_fn(|f| f.debug_list().entries(self.carriers()).finish()))
-            .field("expected_maps", &fmt::from_fn(|f| f.debug_map().entries(self.expected_maps()).finish()))
+            .field("ports", &printed(|f| f.debug_list().entries(self.ports()).finish()))
+            .field("carriers", &printed(|f| f.debug_list().entries(self.carriers()).finish()))
+            .field("expected_maps", &printed(|f| f.debug_map().entries(self.expected_maps()).finish()))
             .finish()
+    }
+}
+
+/// Printed by a closure. `core::fmt::from_fn` does so, too, but not in the oldest Rust that this crate is for.
+struct Printed<F>(F);
+
+fn printed<F: Fn(&mut fmt::Formatter<'_>) -> fmt::Result>(print: F) -> Printed<F> {
+    Printed(print)
+}
+
+impl<F: Fn(&mut fmt::Formatter<'_>) -> fmt::Result> fmt::Debug for Printed<F> {
+    fn fmt(&self, f: &mut fmt::Formatter<'_>) -> fmt::Result {
+        (self.0)(f)
     }
 }
 

@@ -30,7 +30,7 @@ static const hm_carrier *const first = &tool.carriers[0];
 
 static void set_up(void)
 {
-    CHECK(hm_tool_size() == sizeof tool && hm_reports_size() == sizeof reports);
+    CHECK(hm_version() == HM_VERSION && hm_tool_size() == sizeof tool && hm_reports_size() == sizeof reports);
     CHECK(hm_setup(&tool, HM_PORTS + 1, 0) == HM_REFUSED_OUT_OF_RANGE && !hm_sound(&tool) && tool.used == 0);
     CHECK(hm_setup(&tool, 1, HM_PLACES + 1) == HM_REFUSED_OUT_OF_RANGE && !hm_sound(&tool));
     CHECK(GIVE(HM_INPUT_LOAD_START, 1, 0, "") == HM_REFUSED_OUT_OF_RANGE);

@@ -20,6 +20,14 @@ use waiting::found::before_end;
 use waiting::found::stopped_at;
 use waiting::found::waits_for_host;
 
+// 0x00MMmmpp: 0.6.0, HM_VERSION of the header that belongs to it.
+#[no_mangle]
+pub extern "C" fn hm_version() -> u32
+    ensures { λ r. ⌜ r ≡ 1536 ⌝ }
+{
+    0x000600
+}
+
 #[no_mangle]
 pub extern "C" fn hm_tool_size() -> u32
     ensures { λ r. ⌜ r ≡ 3782 ⌝ }
