@@ -3,6 +3,7 @@
 #include <string.h>
 
 #include "hawsermole.h"
+#include "hawsermole_words.h"
 
 struct input {
     const char *text;
@@ -46,31 +47,6 @@ static const struct input queue[] = {
 
 static const struct input *const last_of_the_run = &queue[11];
 
-static const char *const refusals[] = {
-    "accepted",
-    "a port, place, value or name is outside its range, or the input number isn't 1 to 26",
-    "the name has no record",
-    "the name is taken",
-    "the port is reserved or tied",
-    "the row's conditions on state don't hold",
-    "16 carriers are expected already",
-    "not verified",
-    "the buffer place is taken, or the opener is in use",
-};
-
-static const char *const models[] = {"", "transfer", "access", "reservation", "tie", "ID", "slot status", "accessing"};
-
-static const char *const states[][5] = {
-    {"", "", "", "", ""},
-    {"OUT OF SERVICE", "READY TO LOAD", "READY TO UNLOAD", "TRANSFER BLOCKED", ""},
-    {"MANUAL", "AUTO", "", "", ""},
-    {"not reserved", "reserved", "", "", ""},
-    {"not tied", "tied", "", "", ""},
-    {"no state", "NOT READ", "WAITING FOR HOST", "OK", "FAILED"},
-    {"no state", "NOT READ", "WAITING FOR HOST", "OK", "FAILED"},
-    {"no state", "NOT ACCESSED", "IN ACCESS", "COMPLETE", "STOPPED"},
-};
-
 static hm_tool tool;       /* the tool that the firmware runs */
 static hm_tool kept;       /* its last good copy: battery-backed memory with a checksum in a real controller */
 static hm_reports reports;
@@ -83,7 +59,8 @@ static void tell(const hm_report *r)
     } else {
         printf("    carrier %.*s", HM_NAME_BYTES, (const char *)r->name); /* not ended by a zero at 16 bytes */
     }
-    printf(", %s: %s to %s\n", models[r->model], states[r->model][r->old_state], states[r->model][r->new_state]);
+    printf(", %s: %s to %s\n", hm_model_text(r->model), hm_state_text(r->model, r->old_state),
+           hm_state_text(r->model, r->new_state));
 }
 
 /* The tool isn't sound: take the kept copy, or, where that isn't sound either, start with nothing known. */
@@ -112,7 +89,7 @@ static int feed(const struct input *in)
     }
     if (answer != HM_ACCEPTED) {
         /* Nothing has changed and there is nothing to undo: move nothing, and give the number to the host. */
-        printf("%s: refused, %u: %s\n", in->text, (unsigned)answer, refusals[answer]);
+        printf("%s: refused, %u: %s\n", in->text, (unsigned)answer, hm_answer_text(answer));
         return 0;
     }
     printf("%s: accepted\n", in->text);

@@ -6,6 +6,7 @@
 #include <string.h>
 
 #include "hawsermole.h"
+#include "hawsermole_words.h"
 
 /* Items of SEMI E5 with one length byte: a list of n elements, a text of n bytes, numbers. */
 #define L(n) 0x01, n
@@ -36,16 +37,6 @@ static const uint8_t bind_8[] = {L(5), U4(2), BIND, FOUP_8, U1(2), L(0)};
 static const uint8_t proceed_8[] = {L(5), U4(3), PROCEED, FOUP_8, U1(0), L(0)};
 static const uint8_t unbind_8[] = {L(5), U4(4), UNBIND, FOUP_8, U1(2), L(0)};
 
-static const char *const not_understood[] = {
-    "cut short",
-    "unknown format code",
-    "no length byte, or a length no multiple of the element size",
-    "too deep",
-    "too many items",
-    "bytes left over",
-    "another shape or action",
-};
-
 static hm_tool tool;
 static hm_reports reports;
 
@@ -73,7 +64,7 @@ static void from_host(const char *what, const uint8_t *text, uint64_t length)
     if (answer >= HM_REFUSED_CUT_SHORT) {
         /* No input was given: the tool is as it was. The place is for the log. */
         printf("%s: %u, %s, after %u items, at byte %u\n", what, (unsigned)answer,
-               not_understood[answer - HM_REFUSED_CUT_SHORT], (unsigned)items, (unsigned)hm_secs_at(text, length));
+               hm_answer_text(answer), (unsigned)items, (unsigned)hm_secs_at(text, length));
     } else if (answer != HM_ACCEPTED) {
         printf("%s: %u items read, refused by the tool with %u\n", what, (unsigned)items, (unsigned)answer);
     } else {

@@ -7,8 +7,8 @@
  * The rules are document 01's, with document 02's requests P1, expected maps, P3, SECS-II from the host bridge,
  * P4, names padded with blanks, and P2: hm_waiting.
  * C99, C11 and C++17.
- * Link with libhawsermole.a; see examples/firmware.c and examples/host_bridge.c. docs/LANDINGS.md is the list of
- * changes.
+ * Link with libhawsermole.a; see examples/firmware.c and examples/host_bridge.c. hawsermole_words.h has words for the
+ * numbers, and a carrier by its name. docs/LANDINGS.md is the list of changes.
  *
  * WHAT THE LIBRARY ANSWERS FOR
  * Every input is answered. The number, the port and the value may be any 32-bit number, the name, the codes and a

@@ -54,6 +54,7 @@ pub mod raw;
 mod refusal;
 mod report;
 mod row;
+pub mod states;
 mod tool;
 mod waiting;
 pub mod words;

@@ -1,6 +1,7 @@
 //! What an accepted input changed.
 use crate::name::{Name, NAME_BYTES};
 use crate::raw::REPORTS_BYTES;
+use crate::states::State;
 use crate::words;
 use core::fmt;
 
@@ -110,6 +111,18 @@ pub struct Report {
     pub old: u8,
     /// The state after it.
     pub new: u8,
+}
+
+impl Report {
+    /// The state before the input; none only for a number that the model doesn't have, which no machine reports.
+    pub fn old_state(&self) -> Option<State> {
+        State::of(self.model, self.old)
+    }
+
+    /// The state after it.
+    pub fn new_state(&self) -> Option<State> {
+        State::of(self.model, self.new)
+    }
 }
 
 /// The report in the form of document 01's table: `5 AB 0>1`.
@@ -246,6 +259,10 @@ mod tests {
             Report { model: Model::Slot, subject: Subject::Carrier(Name::new(name)), old: 2, new: 4 },
         ];
         assert_eq!(two().collect::<Vec<_>>(), expected);
+        let states =
+            expected.map(|report| (report.old_state().unwrap().word(), report.new_state().unwrap().word()));
+        assert_eq!(states[0], ("READY TO LOAD", "TRANSFER BLOCKED"));
+        assert_eq!(states[1], ("SLOT MAP WAITING FOR HOST", "SLOT MAP VERIFICATION FAILED"));
     }
 
     #[test]

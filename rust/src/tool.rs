@@ -278,7 +278,8 @@ fn refused(answer: u32) -> Result<(), Refusal> {
     }
 }
 
-/// A port as the tool holds it. The numbers are document 01's; [`words`](crate::words) has E87's words for them.
+/// A port as the tool holds it. The numbers are document 01's; [`states`](crate::states) has them as enums, with E87's
+/// words.
 #[derive(Clone, Copy, Debug, PartialEq, Eq, Hash)]
 pub struct Port {
     /// 1 to 4.
@@ -315,7 +316,7 @@ impl Port {
 }
 
 /// A carrier's record as the tool holds it. The numbers are document 01's;
-/// [`words`](crate::words) has E87's words for them.
+/// [`states`](crate::states) has them as enums, with E87's words.
 #[derive(Clone, Copy, Debug, PartialEq, Eq, Hash)]
 pub struct Carrier {
     /// The name.

@@ -1,14 +1,11 @@
 //! E87's words for document 01's numbers, in one place for everybody who prints them.
 //!
 //! Where document 01 has no word for a number (only a tool that isn't sound holds such a number),
-//! the word is `out of range`.
+//! the word is `out of range`. [`states`](crate::states) has the same words as enums.
+use crate::states::*;
 use crate::Model;
 
 const OUT: &str = "out of range";
-
-fn word(words: &[&'static str], number: u8) -> &'static str {
-    words.get(usize::from(number)).copied().unwrap_or(OUT)
-}
 
 /// A state model by name.
 pub const fn model(model: Model) -> &'static str {
@@ -25,64 +22,52 @@ pub const fn model(model: Model) -> &'static str {
 
 /// A port's transfer state, model 1.
 pub fn transfer(number: u8) -> &'static str {
-    word(&["OUT OF SERVICE", "READY TO LOAD", "READY TO UNLOAD", "TRANSFER BLOCKED"], number)
+    Transfer::from_number(number).map_or(OUT, Transfer::word)
 }
 
 /// A port's access mode, model 2.
 pub fn access(number: u8) -> &'static str {
-    word(&["MANUAL", "AUTO"], number)
+    AccessMode::from_number(number).map_or(OUT, AccessMode::word)
 }
 
 /// A port's reservation, model 3.
 pub fn reservation(number: u8) -> &'static str {
-    word(&["NOT RESERVED", "RESERVED"], number)
+    Reservation::from_number(number).map_or(OUT, Reservation::word)
 }
 
 /// A port's tie, model 4.
 pub fn tie(number: u8) -> &'static str {
-    word(&["NOT ASSOCIATED", "ASSOCIATED"], number)
+    Association::from_number(number).map_or(OUT, Association::word)
 }
 
 /// A carrier's ID status, model 5.
 pub fn id(number: u8) -> &'static str {
-    word(
-        &["no state", "ID NOT READ", "ID WAITING FOR HOST", "ID VERIFICATION OK", "ID VERIFICATION FAILED"],
-        number,
-    )
+    State::of(Model::Id, number).map_or(OUT, State::word)
 }
 
 /// A carrier's slot map status, model 6.
 pub fn slot(number: u8) -> &'static str {
-    word(
-        &[
-            "no state",
-            "SLOT MAP NOT READ",
-            "SLOT MAP WAITING FOR HOST",
-            "SLOT MAP VERIFICATION OK",
-            "SLOT MAP VERIFICATION FAILED",
-        ],
-        number,
-    )
+    State::of(Model::Slot, number).map_or(OUT, State::word)
 }
 
 /// A carrier's accessing status, model 7.
 pub fn accessing(number: u8) -> &'static str {
-    word(&["no state", "NOT ACCESSED", "IN ACCESS", "CARRIER COMPLETE", "CARRIER STOPPED"], number)
+    State::of(Model::Accessing, number).map_or(OUT, State::word)
 }
 
 /// A port's movement.
 pub fn movement(number: u8) -> &'static str {
-    word(&["idle", "loading", "unloading"], number)
+    Movement::from_number(number).map_or(OUT, Movement::word)
 }
 
 /// A port's tag: what became of reading the pod's ID.
 pub fn tag(number: u8) -> &'static str {
-    word(&["unread", "read", "failed"], number)
+    Tag::from_number(number).map_or(OUT, Tag::word)
 }
 
 /// A carrier's place.
 pub fn place(number: u8) -> &'static str {
-    word(&["expected", "at a port", "in the buffer"], number)
+    Place::from_number(number).map_or(OUT, Place::word)
 }
 
 /// A code of a slot map.
@@ -92,10 +77,7 @@ pub fn place(number: u8) -> &'static str {
 /// assert_eq!(hawsermole::words::slot_code(6), "out of range");
 /// ```
 pub fn slot_code(number: u8) -> &'static str {
-    word(
-        &["UNDEFINED", "EMPTY", "NOT EMPTY", "CORRECTLY OCCUPIED", "DOUBLE SLOTTED", "CROSS SLOTTED"],
-        number,
-    )
+    SlotCode::from_number(number).map_or(OUT, SlotCode::word)
 }
 
 #[cfg(test)]

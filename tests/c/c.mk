@@ -1,17 +1,20 @@
 # The C interface. EMULATOR runs x86-64 programs where the machine isn't one; empty where it is.
 CFLAGS_C = -O1 -g -Wall -Wextra -Wpedantic -Wconversion -Wshadow -Wundef -Wcast-qual -Werror -Iinclude
-C_FILES = include/hawsermole.h $(wildcard tests/c/*.h) $(ARCHIVE)
+C_FILES = $(wildcard include/*.h tests/c/*.h) $(ARCHIVE)
+CXXFLAGS_C = $(CFLAGS_C) -Wold-style-cast
 SANITIZE = -fsanitize=address,undefined -fno-sanitize-recover=all -fno-omit-frame-pointer
 SANITIZED = gcc -std=c99 $(CFLAGS_C) $(SANITIZE)
 
 SANITIZED_PROGRAMS = firmware host_bridge names secs waiting callers
-C_PROGRAMS = header-c99 header-c11 header-c++17 twelve maps names secs waiting firmware host_bridge callers stack
+C_PROGRAMS = header-c99 header-c11 header-c++17 words-c99 words-c11 words-c++17 twelve maps names secs waiting firmware host_bridge callers stack
 
 c: cross $(C_PROGRAMS:%=target/c/%)
 	CC="$(CC)" tests/c/archive.sh $(ARCHIVE)
 	$(EMULATOR) target/c/header-c99
 	$(EMULATOR) target/c/header-c11
 	$(EMULATOR) target/c/header-c++17
+	for standard in c99 c11 c++17; do $(EMULATOR) target/c/words-$$standard > target/c/words.txt || exit 1; \
+		diff tests/c/words.txt target/c/words.txt || exit 1; done
 	$(EMULATOR) target/c/twelve
 	$(EMULATOR) target/c/maps
 	$(EMULATOR) target/c/names
@@ -34,13 +37,17 @@ sanitize: $(SANITIZED_PROGRAMS:%=target/c/%-sanitized)
 	target/c/callers-sanitized $(CALLERS)
 	target/c/waiting-sanitized
 
-target/c/header-c99 target/c/header-c11: target/c/header-%: tests/c/header.c $(C_FILES)
+target/c/%-c99: tests/c/%.c $(C_FILES)
 	mkdir -p target/c
-	$(CC) -std=$* $(CFLAGS_C) $< $(ARCHIVE) -o $@
+	$(CC) -std=c99 $(CFLAGS_C) $< $(ARCHIVE) -o $@
 
-target/c/header-c++17: tests/c/header.c $(C_FILES)
+target/c/%-c11: tests/c/%.c $(C_FILES)
 	mkdir -p target/c
-	$(CXX) -std=c++17 $(CFLAGS_C) -x c++ $< -x none $(ARCHIVE) -o $@
+	$(CC) -std=c11 $(CFLAGS_C) $< $(ARCHIVE) -o $@
+
+target/c/%-c++17: tests/c/%.c $(C_FILES)
+	mkdir -p target/c
+	$(CXX) -std=c++17 $(CXXFLAGS_C) -x c++ $< -x none $(ARCHIVE) -o $@
 
 target/c/twelve target/c/maps target/c/names target/c/secs target/c/waiting target/c/callers target/c/stack: \
 		target/c/%: tests/c/%.c $(C_FILES)

@@ -27,10 +27,17 @@ static int result(const char *test)
     return failures != 0 || checks == 0;
 }
 
+/* A text's bytes; in C++ without an old cast. */
+#ifdef __cplusplus
+#define BYTES(text) reinterpret_cast<const uint8_t *>(text)
+#else
+#define BYTES(text) ((const uint8_t *)(text))
+#endif
+
 static inline uint32_t give(hm_tool *tool, hm_reports *reports, uint32_t number, uint32_t port, uint32_t value,
                             const char *name)
 {
-    return hm_step(tool, reports, number, port, value, (const uint8_t *)name, strlen(name), HM_NOTHING, 0);
+    return hm_step(tool, reports, number, port, value, BYTES(name), strlen(name), HM_NOTHING, 0);
 }
 
 /* Whether a name of a struct is this text with zeros after it. */

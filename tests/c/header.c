@@ -91,15 +91,11 @@ static void a_pod_comes_in(void)
 
 static void a_pod_is_worked_on(uint32_t end, uint8_t ended)
 {
-    uint8_t codes[HM_SLOTS];
-    unsigned i;
+    static const uint8_t codes[HM_SLOTS] = {0, 1, 2, 3, 4, 5, 0, 1, 2, 3, 4, 5, 0, 1, 2, 3, 4, 5, 0, 1, 2, 3, 4, 5, 0};
 
-    for (i = 0; i < HM_SLOTS; i++) {
-        codes[i] = (uint8_t)(i % (HM_CODE_GREATEST + 1));
-    }
     ACCEPTED(HM_INPUT_OPEN, 0, 0, "A");
     CHECK(first->open == 1);
-    CHECK(hm_step(&tool, &reports, HM_INPUT_SLOT_MAP, 0, 0, (const uint8_t *)"A", 1, codes, HM_SLOTS) == HM_ACCEPTED);
+    CHECK(hm_step(&tool, &reports, HM_INPUT_SLOT_MAP, 0, 0, BYTES("A"), 1, codes, HM_SLOTS) == HM_ACCEPTED);
     CHECK(memcmp(first->map, codes, HM_SLOTS) == 0 && first->slot == HM_STATUS_WAITING_FOR_HOST);
     CHECK(reports.items[0].model == HM_MODEL_SLOT);
     ACCEPTED(HM_INPUT_PROCEED_WITH_CARRIER, HM_PORT_NOT_GIVEN, 0, "A");
