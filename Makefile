@@ -2,7 +2,7 @@
 #   make                builds the command line, target/hawsermole
 #   make bench          measures the figures of docs/FIGURES.md
 #   make compare N=..   compares the proved machine with the independent program on more inputs
-#   make diagrams       draws docs/diagrams again, from what the machine does
+#   make diagrams       draws docs/diagrams again, from what the machine does, and what is made from docs/events.tsv
 #   make oldest         tests the Rust crate with the oldest Rust that it is for (fetches it from Debian's archive)
 #   make manual         docs/MANUAL.md as target/manual.pdf (needs pandoc, weasyprint and poppler-utils)
 include tools/host.mk
@@ -11,7 +11,8 @@ ARCHIVE = target/staticlib/libhawsermole.a
 N = 100000
 CALLERS = 50000
 
-.PHONY: all run test users bench library cross independent rust oldest cli scenarios c sanitize compare diagrams pictures manual
+.PHONY: all run test users bench library cross independent rust oldest cli scenarios c sanitize compare diagrams \
+	pictures manual
 
 all: target/hawsermole
 
@@ -72,11 +73,13 @@ bench: $(NATIVE)/libhawsermole.a cross
 	cd bench && HAWSERMOLE_LIB_DIR=$(abspath $(NATIVE)) cargo run --offline --quiet --release -- time
 
 diagrams: library cross
+	cd diagrams && $(CARGO) run --offline --quiet --locked -- --events ..
 	cd diagrams && $(CARGO) run --offline --quiet --locked -- ../docs/diagrams
 
 # The pictures and the manual's quotes are what the programs give.
 pictures: target/hawsermole
 	cd diagrams && $(CARGO) test --offline --quiet --locked
+	cd diagrams && $(CARGO) run --offline --quiet --locked -- --check-events ..
 	cd diagrams && $(CARGO) run --offline --quiet --locked -- --check ../docs/diagrams
 	CC="$(CC)" EMULATOR="$(EMULATOR)" diagrams/quotes.sh target/hawsermole
 

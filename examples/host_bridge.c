@@ -6,6 +6,7 @@
 #include <string.h>
 
 #include "hawsermole.h"
+#include "hawsermole_events.h"
 #include "hawsermole_words.h"
 
 /* Items of SEMI E5 with one length byte: a list of n elements, a text of n bytes, numbers. */
@@ -40,18 +41,30 @@ static const uint8_t unbind_8[] = {L(5), U4(4), UNBIND, FOUP_8, U1(2), L(0)};
 static hm_tool tool;
 static hm_reports reports;
 
-/* A real bridge sends an event to the host here. */
-static void tell(void)
+/* A real bridge sends these events to the host. Of a message it needn't know which input it was. */
+static void tell_events(const hm_report *r, uint32_t number)
+{
+    const hm_event *event = number == 0 ? hm_event_of_message(r) : hm_event_of(number, r);
+    unsigned i;
+
+    for (i = 0; event != NULL && i < sizeof event->events && event->events[i] != 0; i++) {
+        printf(", Table %u #%u", event->table, event->events[i]);
+    }
+    printf("\n");
+}
+
+static void tell(uint32_t number)
 {
     unsigned i;
     for (i = 0; i < reports.count; i++) {
         const hm_report *r = &reports.items[i];
         if (r->model <= HM_MODEL_TIE) {
-            printf("    model %u, port %u: %u to %u\n", r->model, r->port, r->old_state, r->new_state);
+            printf("    model %u, port %u: %u to %u", r->model, r->port, r->old_state, r->new_state);
         } else {
-            printf("    model %u, carrier %.*s: %u to %u\n", r->model, HM_NAME_BYTES, (const char *)r->name,
+            printf("    model %u, carrier %.*s: %u to %u", r->model, HM_NAME_BYTES, (const char *)r->name,
                    r->old_state, r->new_state);
         }
+        tell_events(r, number);
     }
 }
 
@@ -69,7 +82,7 @@ static void from_host(const char *what, const uint8_t *text, uint64_t length)
         printf("%s: %u items read, refused by the tool with %u\n", what, (unsigned)items, (unsigned)answer);
     } else {
         printf("%s: %u items read, accepted\n", what, (unsigned)items);
-        tell();
+        tell(0);
     }
 }
 
@@ -80,7 +93,7 @@ static void from_tool(const char *what, uint32_t number, uint32_t port, const ch
         hm_step(&tool, &reports, number, port, 0, (const uint8_t *)name, strlen(name), codes, codes_length);
 
     printf("%s: %u\n", what, (unsigned)answer);
-    tell();
+    tell(number);
 }
 
 static void arrives(const char *what, uint32_t port, const char *name)

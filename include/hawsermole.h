@@ -8,7 +8,8 @@
  * P4, names padded with blanks, and P2: hm_waiting.
  * C99, C11 and C++17.
  * Link with libhawsermole.a; see examples/firmware.c and examples/host_bridge.c. hawsermole_words.h has words for the
- * numbers, and a carrier by its name. docs/LANDINGS.md is the list of changes.
+ * numbers, and a carrier by its name; hawsermole_events.h SEMI E87's numbers of what a report tells.
+ * docs/LANDINGS.md is the list of changes.
  *
  * WHAT THE LIBRARY ANSWERS FOR
  * Every input is answered. The number, the port and the value may be any 32-bit number, the name, the codes and a

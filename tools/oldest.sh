@@ -23,6 +23,7 @@ export LD_LIBRARY_PATH RUSTC="$root/usr/bin/rustc" RUSTDOC="$root/usr/bin/rustdo
 "$RUSTC" --version | grep -F "rustc $wanted."
 target=x86_64-unknown-linux-gnu
 cd rust
-CARGO_TARGET_DIR=../target/oldest/build CARGO_BUILD_TARGET=$target CARGO_TARGET_X86_64_UNKNOWN_LINUX_GNU_LINKER=${CC:-cc} \
+CARGO_TARGET_DIR=../target/oldest/build CARGO_BUILD_TARGET=$target \
+    CARGO_TARGET_X86_64_UNKNOWN_LINUX_GNU_LINKER=${CC:-cc} \
     CARGO_TARGET_X86_64_UNKNOWN_LINUX_GNU_RUNNER="env -u LD_LIBRARY_PATH ${EMULATOR:-}" \
     cargo test --offline --quiet --locked --lib --tests

@@ -2,8 +2,9 @@
 #![forbid(unsafe_code)]
 
 use diagrams::explore::{explore, explore_from, Found, NAMES};
-use diagrams::pictures;
 use diagrams::walk::walk;
+use diagrams::{from_events, pictures};
+use hawsermole::EVENTS;
 use std::ffi::OsString;
 use std::fs;
 use std::path::Path;
@@ -12,6 +13,9 @@ use std::process::ExitCode;
 const USAGE: &str = "\
 usage: diagrams DIR            writes the pictures of the state models to DIR
        diagrams --check DIR    status 1 unless DIR holds just the pictures that would be written
+       diagrams --events ROOT  writes what is made from ROOT/docs/events.tsv; status 1 unless that has every report
+       diagrams --check-events ROOT
+                               status 1 unless what is made from it is there already
        diagrams --walk FILE    plays a script of the command line and prints it as a table
        diagrams --list         prints the transitions and what causes them
        diagrams --wide         searches more ports, places and names; status 1 if that finds anything else
@@ -25,6 +29,8 @@ fn main() -> ExitCode {
         [Some("--wide")] => wide(),
         [Some("--walk"), _] => walked(Path::new(&arguments[1])),
         [Some("--check"), _] => check(Path::new(&arguments[1])),
+        [Some("--events"), _] => write_events(Path::new(&arguments[1])),
+        [Some("--check-events"), _] => check_events(Path::new(&arguments[1])),
         [Some(option)] if option.starts_with('-') => Err(format!("unknown arguments\n{USAGE}")),
         [_] => write(Path::new(&arguments[0])),
         _ => Err(format!("unknown arguments\n{USAGE}")),
@@ -55,6 +61,28 @@ fn write(folder: &Path) -> Result<(), String> {
         fs::write(&path, text).map_err(|error| format!("{}: {error}", path.display()))?;
     }
     Ok(())
+}
+
+fn write_events(root: &Path) -> Result<(), String> {
+    for (file, text) in from_events(root, &explore())? {
+        fs::write(root.join(file), text).map_err(|error| format!("{file}: {error}"))?;
+    }
+    Ok(())
+}
+
+fn check_events(root: &Path) -> Result<(), String> {
+    let made = from_events(root, &explore())?;
+    for (file, text) in &made {
+        let there = fs::read_to_string(root.join(file)).map_err(|error| format!("{file}: {error}"))?;
+        if there != *text {
+            return Err(format!("{file} is not what is made from docs/events.tsv: make diagrams"));
+        }
+    }
+    say(&format!(
+        "diagrams: {} reports of inputs have their events, {} files: as checked in\n",
+        EVENTS.len(),
+        made.len()
+    ))
 }
 
 /// A picture that is there and wouldn't be written is a difference too.
@@ -88,7 +116,7 @@ fn list(found: &Found) -> String {
     let mut text = String::new();
     for (edge, causes) in &found.edges {
         let causes: Vec<String> =
-            causes.iter().map(|(&cause, &kinds)| diagrams::text::cause(cause, kinds)).collect();
+            causes.iter().map(|(&cause, &kinds)| diagrams::text::cause(*edge, cause, kinds)).collect();
         text += &format!("{} {}>{}  {}\n", edge.model.number(), edge.old, edge.new, causes.join(", "));
     }
     text

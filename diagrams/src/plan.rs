@@ -1,5 +1,5 @@
 //! Joins what was found with the layout, and fails where one has what the other lacks.
-use crate::explore::{Edge, Found};
+use crate::explore::Found;
 use crate::layout::{Layout, Node, Route};
 use crate::text;
 use hawsermole::Model;
@@ -43,9 +43,9 @@ fn words_found(model: Model, found: &Found) -> Words {
     for &(_, first) in found.first.iter().filter(|(of, _)| *of == model) {
         words.insert((Node::SetUp, Node::State(first)), vec!["set-up".into()]);
     }
-    for (&Edge { model, old, new }, causes) in found.edges.iter().filter(|(edge, _)| edge.model == model) {
-        let lines = causes.iter().map(|(&cause, &kinds)| text::cause(cause, kinds)).collect();
-        words.insert((node(model, old), node(model, new)), lines);
+    for (&edge, causes) in found.edges.iter().filter(|(edge, _)| edge.model == model) {
+        let lines = causes.iter().map(|(&cause, &kinds)| text::cause(edge, cause, kinds)).collect();
+        words.insert((node(model, edge.old), node(model, edge.new)), lines);
     }
     words
 }

@@ -2,7 +2,7 @@
 use crate::layout::{Layout, Node, Point, Side, WIDTH};
 use crate::plan::{Arrow, Plan};
 use crate::shape::{dots, state_box, state_words, DOT, NUMBER_WIDTH};
-use crate::text::{width, FIXED, INTERNAL, LINE, SIZE};
+use crate::text::{width, FIXED, INTERNAL, LINE, NO_NUMBER, NUMBER, SIZE};
 
 const HEAD_LENGTH: i32 = 9;
 const HEAD_BREADTH: i32 = 4;
@@ -112,7 +112,11 @@ fn legend(plan: &Plan) -> Vec<Vec<(Key, String)>> {
     let ends = |node| plan.arrows.iter().any(|arrow| arrow.route.from == node || arrow.route.to == node);
     let marked =
         |mark: &str| plan.arrows.iter().flat_map(|arrow| &arrow.lines).any(|line| line.ends_with(mark));
-    let mut lines = Vec::new();
+    let table = plan.layout.model.table();
+    let mut lines = vec![vec![(Key::Mark(NUMBER), format!("transition of the standard's Table {table}"))]];
+    if marked(NO_NUMBER) {
+        lines[0].push((Key::Mark(NO_NUMBER), "none there".into()));
+    }
     if ends(Node::NoRecord) {
         lines.push(vec![(Key::Made, "record made".into()), (Key::Gone, "record gone".into())]);
     }
@@ -133,8 +137,9 @@ fn legend_text(items: &[(Key, String)], y: i32) -> String {
             Key::Gone => dot_text((x, y), false),
             Key::Mark(mark) => lines_text(&[mark.to_string()], (x, y), Side::Middle, false),
         };
-        out += &lines_text(std::slice::from_ref(text), (x + 15, y), Side::Start, false);
-        x += width(text) + 50;
+        let wide = if let Key::Mark(mark) = key { width(mark) / 2 } else { DOT };
+        out += &lines_text(std::slice::from_ref(text), (x + wide + 6, y), Side::Start, false);
+        x += width(text) + wide + 45;
     }
     out
 }

@@ -1,27 +1,45 @@
 //! The words of a picture, and how much room they take.
-use crate::explore::{choice, Cause, Kinds};
-use hawsermole::{Argument, Row};
+use crate::explore::{choice, Cause, Edge, Kinds};
+use hawsermole::{Argument, Event, Row};
 
 /// In pixels; 13 of them are some 9 points when the picture is as wide as the text of an A4 page.
 pub const SIZE: i32 = 13;
 pub const LINE: i32 = 16;
 
+/// Marks of transitions with their numbers in the standard's table, and of those that it doesn't have.
+pub const NUMBER: &str = "#";
+pub const NO_NUMBER: &str = "no #";
+
 /// Marks of inputs that cause a transition in one kind of tool alone.
 pub const FIXED: &str = "(F)";
 pub const INTERNAL: &str = "(I)";
 
-/// An input on an arrow: `AccessEnd: stopped`, `MoveIn (I)`.
-pub fn cause(cause: Cause, kinds: Kinds) -> String {
+/// An input on an arrow, with the standard's number of what it causes there: `AccessEnd: stopped #20`, `MoveIn #8 (I)`.
+pub fn cause(edge: Edge, cause: Cause, kinds: Kinds) -> String {
     let row = Row::numbered(cause.number).expect("the search sends rows");
     let mut text = String::from(row.name);
     if let (Some(argument), Some(value)) = (choice(row), cause.choice) {
         text += ": ";
         text += value_word(argument, value);
     }
+    text += " ";
+    text += &passed(edge, cause.number);
     match (kinds.fixed, kinds.internal) {
         (true, false) => text + " " + FIXED,
         (false, true) => text + " " + INTERNAL,
         _ => text,
+    }
+}
+
+/// The transitions as the standard numbers them: `#10 #5`.
+fn passed(Edge { model, old, new }: Edge, input: u32) -> String {
+    let event = Event::of_change(input, model, old, new);
+    let numbers: Vec<String> =
+        event.into_iter().flat_map(|event| event.passed).map(|number| format!("{NUMBER}{number}")).collect();
+    if numbers.is_empty() {
+        NO_NUMBER.into()
+    } else {
+        numbers.join(" ")
     }
 }
 
@@ -49,7 +67,7 @@ fn wide(letter: char) -> i32 {
     match letter {
         'm' | 'w' | 'M' | 'W' => 95,
         'f' | 'i' | 'j' | 'l' | 'r' | 't' | 'I' => 42,
-        'a'..='z' | '0'..='9' => 62,
+        'a'..='z' | '0'..='9' | '#' => 62,
         'A'..='Z' => 74,
         _ => 42,
     }
@@ -70,20 +88,28 @@ pub fn wrapped(text: &str, room: i32) -> Vec<String> {
 #[cfg(test)]
 mod tests {
     use super::*;
+    use hawsermole::Model;
 
     const BOTH: Kinds = Kinds { fixed: true, internal: true };
 
+    const INTERNAL_ALONE: Kinds = Kinds { fixed: false, internal: true };
+    const FIXED_ALONE: Kinds = Kinds { fixed: true, internal: false };
+
     #[test]
-    fn causes_have_document_01s_names() {
-        let named = |number, choice, kinds| cause(Cause { number, choice }, kinds);
-        assert_eq!(named(1, None, BOTH), "Bind");
-        assert_eq!(named(9, Some(1), BOTH), "ChangeAccess: AUTO");
-        assert_eq!(named(10, Some(0), BOTH), "ChangeServiceStatus: out");
-        assert_eq!(named(22, Some(1), BOTH), "AccessEnd: stopped");
-        assert_eq!(named(20, Some(1), BOTH), "SlotMap: as expected");
-        assert_eq!(named(20, Some(0), BOTH), "SlotMap: otherwise");
-        assert_eq!(named(18, None, Kinds { fixed: false, internal: true }), "MoveIn (I)");
-        assert_eq!(named(23, None, Kinds { fixed: true, internal: false }), "Close (F)");
+    fn causes_have_document_01s_names_and_the_standards_numbers() {
+        let named = |number, choice, kinds, (model, old, new)| {
+            cause(Edge { model, old, new }, Cause { number, choice }, kinds)
+        };
+        assert_eq!(named(1, None, BOTH, (Model::Tie, 0, 1)), "Bind #2");
+        assert_eq!(named(9, Some(1), BOTH, (Model::Access, 0, 1)), "ChangeAccess: AUTO #2");
+        assert_eq!(named(10, Some(0), BOTH, (Model::Transfer, 1, 0)), "ChangeServiceStatus: out #3");
+        assert_eq!(named(22, Some(1), BOTH, (Model::Accessing, 2, 4)), "AccessEnd: stopped #20");
+        assert_eq!(named(20, Some(1), BOTH, (Model::Slot, 1, 3)), "SlotMap: as expected #13");
+        assert_eq!(named(20, Some(0), BOTH, (Model::Slot, 1, 2)), "SlotMap: otherwise #14");
+        assert_eq!(named(15, None, BOTH, (Model::Transfer, 3, 1)), "LoadFail #10 #5");
+        assert_eq!(named(6, None, BOTH, (Model::Id, 1, 4)), "CancelCarrier no #");
+        assert_eq!(named(18, None, INTERNAL_ALONE, (Model::Transfer, 3, 1)), "MoveIn #8 (I)");
+        assert_eq!(named(23, None, FIXED_ALONE, (Model::Transfer, 3, 2)), "Close #9 (F)");
     }
 
     #[test]

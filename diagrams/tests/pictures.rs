@@ -39,9 +39,13 @@ fn what_meets_is_drawn() {
     let plan = plan(&layout(STATES, &[SETUP, OUT, BACK]), &found(&[(0, 1), (1, 0)])).unwrap();
     check(&plan).unwrap();
     let text = svg(&plan);
-    for part in
-        [">MANUAL</text>", ">AUTO</text>", ">set-up</text>", ">ChangeAccess: AUTO</text>", "M185 50L375 50"]
-    {
+    for part in [
+        ">MANUAL</text>",
+        ">AUTO</text>",
+        ">set-up</text>",
+        ">ChangeAccess: AUTO #2</text>",
+        "M185 50L375 50",
+    ] {
         assert!(text.contains(part), "{part}");
     }
     assert!(text.starts_with("<svg ") && text.ends_with("</svg>\n"));
@@ -71,9 +75,9 @@ fn states_are_foreseen_and_found() {
 fn things_that_lie_on_each_other_are_told() {
     let moved = |label| Route { label, ..BACK };
     let told = |route| trouble(STATES, &[SETUP, OUT, route], &[(0, 1), (1, 0)]);
-    let label = "access.svg: the label of ChangeAccess: AUTO lies";
-    assert_eq!(told(moved((280, 54))), format!("{label} on the line of ChangeAccess: AUTO"));
-    assert_eq!(told(moved((280, 20))), format!("{label} on the label of ChangeAccess: AUTO"));
+    let label = "access.svg: the label of ChangeAccess: AUTO #3 lies";
+    assert_eq!(told(moved((280, 54))), format!("{label} on the line of ChangeAccess: AUTO #2"));
+    assert_eq!(told(moved((280, 20))), format!("{label} on the label of ChangeAccess: AUTO #2"));
     assert_eq!(told(moved((480, 60))), format!("{label} on the box of state 1"));
     assert_eq!(told(moved((100, 95))), format!("{label} on the line of set-up"));
     assert_eq!(told(moved((30, 130))), format!("{label} outside the picture"));
@@ -95,7 +99,10 @@ fn ways_run_straight_and_from_box_to_box() {
     );
     assert_eq!(told(&[(375, 60)]), format!("{start} has less than two points"));
     let crossed = told(&[(460, 77), (460, 100), (280, 100), (280, 15), (100, 15), (100, 33)]);
-    assert_eq!(crossed, "access.svg: the line of ChangeAccess: AUTO lies on the line of ChangeAccess: AUTO");
+    assert_eq!(
+        crossed,
+        "access.svg: the line of ChangeAccess: AUTO #3 lies on the line of ChangeAccess: AUTO #2"
+    );
 }
 
 #[test]

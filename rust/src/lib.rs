@@ -3,9 +3,10 @@
 //!
 //! The machine itself is an archive, `libhawsermole.a`, proved to give exactly the answer, the state and the
 //! reports that document 01 lays down, with document 02's requests P1, P3, P4 and P6. This crate wraps it: an [`Input`]
-//! has document 01's name and arguments, a [`Refusal`] is one of its eight reasons, [`Reports`] gives what changed, an
-//! [`ExpectedMap`] lets the tool judge a slot map that the host knows beforehand, [`Name::in_text`] tells which name a
-//! tag reader's text has without the blanks at its end, and [`Tool::secs_step`] takes a host's S3F17 as it came.
+//! has document 01's name and arguments, a [`Refusal`] is one of its eight reasons, [`Reports`] gives what changed and
+//! [`Event`] which transitions of E87 that is, an [`ExpectedMap`] lets the tool judge a slot map that the host knows
+//! beforehand, [`Name::in_text`] tells which name a tag reader's text has without the blanks at its end, and
+//! [`Tool::secs_step`] takes a host's S3F17 as it came. [`states`] has every state by E87's word.
 //!
 //! ```
 //! use hawsermole::{Input, Model, Refusal, Subject, Tool};
@@ -46,6 +47,7 @@
 #[cfg(test)]
 extern crate std;
 
+mod event;
 mod input;
 mod machine;
 mod map;
@@ -59,6 +61,7 @@ mod tool;
 mod waiting;
 pub mod words;
 
+pub use event::{Event, EVENTS};
 pub use input::{Input, Parts};
 pub use map::{ExpectedMap, MapError};
 pub use name::{Name, NameError, NAME_BYTES, TEXT_BYTES};

@@ -51,6 +51,17 @@ impl Model {
         Model::ALL.into_iter().find(|model| model.number() == number)
     }
 
+    /// The table of SEMI E87-0312 that has the model's transitions.
+    pub const fn table(self) -> u8 {
+        match self {
+            Model::Transfer => 5,
+            Model::Access => 9,
+            Model::Reservation => 10,
+            Model::Tie => 11,
+            Model::Id | Model::Slot | Model::Accessing => 7,
+        }
+    }
+
     /// A state of this model in E87's words.
     ///
     /// ```

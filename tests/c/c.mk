@@ -6,7 +6,8 @@ SANITIZE = -fsanitize=address,undefined -fno-sanitize-recover=all -fno-omit-fram
 SANITIZED = gcc -std=c99 $(CFLAGS_C) $(SANITIZE)
 
 SANITIZED_PROGRAMS = firmware host_bridge names secs waiting callers
-C_PROGRAMS = header-c99 header-c11 header-c++17 words-c99 words-c11 words-c++17 twelve maps names secs waiting firmware host_bridge callers stack
+C_PROGRAMS = header-c99 header-c11 header-c++17 words-c99 words-c11 words-c++17 events-c99 events-c11 events-c++17 \
+	twelve maps names secs waiting firmware host_bridge callers stack
 
 c: cross $(C_PROGRAMS:%=target/c/%)
 	CC="$(CC)" tests/c/archive.sh $(ARCHIVE)
@@ -15,6 +16,9 @@ c: cross $(C_PROGRAMS:%=target/c/%)
 	$(EMULATOR) target/c/header-c++17
 	for standard in c99 c11 c++17; do $(EMULATOR) target/c/words-$$standard > target/c/words.txt || exit 1; \
 		diff tests/c/words.txt target/c/words.txt || exit 1; done
+	$(EMULATOR) target/c/events-c99 docs/events.tsv
+	$(EMULATOR) target/c/events-c11 docs/events.tsv
+	$(EMULATOR) target/c/events-c++17 docs/events.tsv
 	$(EMULATOR) target/c/twelve
 	$(EMULATOR) target/c/maps
 	$(EMULATOR) target/c/names

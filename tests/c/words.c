@@ -1,6 +1,6 @@
 /*
- * hawsermole_words.h, as C99, C11 and C++17 without an old cast: every word printed, to be held against words.txt, which
- * the Rust crate is held to as well; and carriers by name.
+ * hawsermole_words.h, as C99, C11 and C++17 without an old cast: every word printed, to be held against words.txt,
+ * which the Rust crate is held to as well; and carriers by name.
  */
 #include "check.h"
 #include "hawsermole_words.h"
