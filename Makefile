@@ -4,7 +4,8 @@
 #   make compare N=..   compares the proved machine with the independent program on more inputs
 #   make diagrams       draws docs/diagrams again, from what the machine does, and what is made from docs/events.tsv
 #   make oldest         tests the Rust crate with the oldest Rust that it is for (fetches it from Debian's archive)
-#   make manual         docs/MANUAL.md as target/manual.pdf (needs pandoc, weasyprint and poppler-utils)
+#   make manual         docs/MANUAL.md as target/manual.pdf, and card.pdf, narrowings.pdf and events.pdf beside it
+#                       (needs pandoc, weasyprint, poppler-utils, fonts-liberation and fonts-dejavu-core)
 include tools/host.mk
 
 ARCHIVE = target/staticlib/libhawsermole.a
@@ -21,8 +22,7 @@ cross:
 
 # The proved functions, for C and Rust to link.
 library:
-	mkdir -p target
-	rt staticlib hawsermole > target/library.log 2>&1 || { cat target/library.log; exit 1; }
+	@tools/library.sh
 
 $(ARCHIVE): library ;
 
@@ -30,7 +30,8 @@ target/native/libhawsermole.a: library
 	tools/native.sh target/native
 
 target/hawsermole: library cross
-	cd cli && $(CARGO) build --offline --quiet --release --locked
+	@echo "command line: compiling target/hawsermole"
+	@cd cli && $(CARGO) build --offline --quiet --release --locked
 ifeq ($(EMULATOR),)
 	cp cli/target/$(RELEASE)/hawsermole $@
 else
@@ -40,7 +41,8 @@ else
 endif
 
 run: target/hawsermole
-	target/hawsermole --explain examples/twelve_rows.script
+	@echo "playing document 01's run to check by hand, explained: examples/twelve_rows.script"
+	@target/hawsermole --explain examples/twelve_rows.script
 
 # Links no archive, so that it runs as it is on every machine.
 independent:

@@ -1,9 +1,10 @@
 //! The state models of document 01 as pictures, found by running the proved machine: [`explore`] finds every
 //! transition that a run from set-up can cause, [`layout`] says where things stand, [`plan`] joins the two,
 //! [`shape`] sees that nothing lies on anything else, and [`svg`] writes. [`walk`] makes tables of played scripts.
-//! [`events`] holds the standard's numbers of all reports to what [`explore`] found.
+//! [`events`] holds the standard's numbers of all reports to what [`explore`] found; [`card`] is for the pocket.
 #![forbid(unsafe_code)]
 
+pub mod card;
 pub mod events;
 pub mod explore;
 pub mod layout;
@@ -23,11 +24,8 @@ pub fn pictures(found: &explore::Found) -> Result<Vec<(&'static str, String)>, S
     layout::LAYOUTS.iter().map(picture).collect()
 }
 
-/// The files that are made from `docs/events.tsv`, by their paths from the root: each path and what the file holds.
-pub fn from_events(
-    root: &std::path::Path,
-    found: &explore::Found,
-) -> Result<Vec<(&'static str, String)>, String> {
+/// The card, and the files that are made from `docs/events.tsv`: each path from the root, and what the file holds.
+pub fn made(root: &std::path::Path, found: &explore::Found) -> Result<Vec<(&'static str, String)>, String> {
     let read =
         |file: &str| std::fs::read_to_string(root.join(file)).map_err(|error| format!("{file}: {error}"));
     let lines = events::read(&read("docs/events.tsv")?)?;
@@ -37,6 +35,7 @@ pub fn from_events(
         ("include/hawsermole_events.h", events::c(&lines)),
         ("rust/src/event/table.rs", events::rust(&lines)),
         ("docs/EVENTS.md", page),
+        ("docs/CARD.md", card::card()),
     ])
 }
 

@@ -3,7 +3,7 @@
 
 use diagrams::explore::{explore, explore_from, Found, NAMES};
 use diagrams::walk::walk;
-use diagrams::{from_events, pictures};
+use diagrams::{made, pictures};
 use hawsermole::EVENTS;
 use std::ffi::OsString;
 use std::fs;
@@ -13,9 +13,10 @@ use std::process::ExitCode;
 const USAGE: &str = "\
 usage: diagrams DIR            writes the pictures of the state models to DIR
        diagrams --check DIR    status 1 unless DIR holds just the pictures that would be written
-       diagrams --events ROOT  writes what is made from ROOT/docs/events.tsv; status 1 unless that has every report
+       diagrams --events ROOT  writes the card and what is made from ROOT/docs/events.tsv; status 1 unless that has
+                               every report that a run gives
        diagrams --check-events ROOT
-                               status 1 unless what is made from it is there already
+                               status 1 unless these files are there already
        diagrams --walk FILE    plays a script of the command line and prints it as a table
        diagrams --list         prints the transitions and what causes them
        diagrams --wide         searches more ports, places and names; status 1 if that finds anything else
@@ -64,24 +65,24 @@ fn write(folder: &Path) -> Result<(), String> {
 }
 
 fn write_events(root: &Path) -> Result<(), String> {
-    for (file, text) in from_events(root, &explore())? {
+    for (file, text) in made(root, &explore())? {
         fs::write(root.join(file), text).map_err(|error| format!("{file}: {error}"))?;
     }
     Ok(())
 }
 
 fn check_events(root: &Path) -> Result<(), String> {
-    let made = from_events(root, &explore())?;
-    for (file, text) in &made {
+    let files = made(root, &explore())?;
+    for (file, text) in &files {
         let there = fs::read_to_string(root.join(file)).map_err(|error| format!("{file}: {error}"))?;
         if there != *text {
-            return Err(format!("{file} is not what is made from docs/events.tsv: make diagrams"));
+            return Err(format!("{file} is not what would be made now: make diagrams"));
         }
     }
     say(&format!(
         "diagrams: {} reports of inputs have their events, {} files: as checked in\n",
         EVENTS.len(),
-        made.len()
+        files.len()
     ))
 }
 

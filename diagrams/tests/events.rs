@@ -1,8 +1,8 @@
-//! The table of events has every report that a run gives, and what is made from it is there; a table that lacks one, has
-//! one too many or forgets a transition is told.
+//! The table of events has every report that a run gives, and what is made from it is there; a table that lacks one,
+//! has one too many or forgets a transition is told.
 use diagrams::events::{check, read, Line};
 use diagrams::explore::{explore, Found};
-use diagrams::from_events;
+use diagrams::made;
 use hawsermole::{Model, EVENTS};
 use std::fs;
 use std::path::{Path, PathBuf};
@@ -21,7 +21,7 @@ fn lines() -> Vec<Line> {
 #[test]
 fn every_report_has_its_line() {
     assert_eq!(check(&lines(), &FOUND), Ok(()));
-    for (file, text) in from_events(&root(), &FOUND).unwrap() {
+    for (file, text) in made(&root(), &FOUND).unwrap() {
         assert!(fs::read_to_string(root().join(file)).unwrap() == text, "{file}");
     }
 }
