@@ -25,6 +25,10 @@
  *   message. So don't pass a name that stands in that same tool or in those reports: copy it out first.
  * - One caller at a time for one tool, and nobody else reads or writes that tool, its reports, the name, the codes
  *   or the message during the call. Different tools may be used at the same time: the library keeps no state.
+ * - An accepted input has had its whole effect in the record, whatever the machine has done so far. So it is sent when
+ *   the thing is done, and its reports are passed on no earlier. HM_INPUT_CANCEL_CARRIER closes an open pod's record at
+ *   once: another may be opened, its port is READY TO UNLOAD. Shut the pod first (ask a copy of the tool before that);
+ *   docs/MANUAL.md, "Where the record is ahead", has every such input.
  * - HM_STACK_BYTES of stack are free for each call.
  * - The program is for the archive's target: x86-64 Linux, System V ABI. The archive is position independent,
  *   uses no heap and no file, and needs from the C library memcpy, memset and memcmp at most.
@@ -82,7 +86,7 @@ enum hm_input {
     HM_INPUT_CARRIER_NOTIFICATION = 3,         /* name, codes: the expected map, or none */
     HM_INPUT_CANCEL_CARRIER_NOTIFICATION = 4,  /* name */
     HM_INPUT_PROCEED_WITH_CARRIER = 5,         /* name, port or 0 */
-    HM_INPUT_CANCEL_CARRIER = 6,               /* name, port or 0 */
+    HM_INPUT_CANCEL_CARRIER = 6,               /* name, port or 0; shut an open pod first: its record is at once */
     HM_INPUT_CARRIER_OUT = 7,                  /* name, port */
     HM_INPUT_CARRIER_IN = 8,                   /* name */
     HM_INPUT_CHANGE_ACCESS = 9,                /* port, value: HM_ACCESS_MANUAL or HM_ACCESS_AUTO */

@@ -31,7 +31,8 @@ pub enum Input<'a> {
     CancelCarrierNotification { name: &'a [u8] },
     /// 5: the host accepts a carrier's ID, or else its slot map. Port 0: not given.
     ProceedWithCarrier { name: &'a [u8], port: u32 },
-    /// 6: the host rejects a carrier. Port 0: not given.
+    /// 6: the host rejects a carrier. Port 0: not given. Shut an open pod first: its record is closed at once, so that
+    /// another may be opened, or its port is READY TO UNLOAD.
     CancelCarrier { name: &'a [u8], port: u32 },
     /// 7: a carrier comes from the buffer to a port.
     CarrierOut { name: &'a [u8], port: u32 },
