@@ -6,6 +6,7 @@ set -eu
 [ $# -eq 1 ] || { echo "usage: tools/native.sh DIR" >&2; exit 2; }
 mkdir -p "$1"
 out=$(cd "$1" && pwd)
+cd "$(dirname "$0")/.." # `rt` finds the crates from here
 machine=$(uname -m)
 kit=$(dirname "$(dirname "$(readlink -f "$(command -v rt)")")")
 clang=$kit/on/$machine/toolchain/bin/clang
