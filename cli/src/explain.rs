@@ -1,7 +1,9 @@
 //! What an input, its answer and its reports mean, in E87's words: indented lines below the answer.
+use crate::grounds;
 use crate::print::{self, Answer};
+use crate::values::cut;
 use hawsermole::{
-    words, Argument, ExpectedMap, Model, Name, NameError, Parts, Refusal, Report, Row, Subject, Tool, Waiting, SLOTS,
+    words, Argument, Model, Name, NameError, Parts, Refusal, Report, Row, Subject, Tool, Waiting, SLOTS,
 };
 
 /// A set-up's answer.
@@ -45,22 +47,20 @@ pub fn waiting(tool: &Tool, Waiting { first, read }: Waiting) -> String {
     format!("  carrier {}: {waits}; {read} read\n", carrier.name)
 }
 
-/// A line for the input, one for the name that was used where another text was sent, one for the answer, one for each
-/// thing that a refusal would have needed, one for each report, and one for what a slot map was compared with.
+/// A line for the input, one for the name that was used where another text was sent, one for the answer; for a refusal
+/// its causes with what to do about each; one for each report, and one for what a slot map was compared with.
 pub fn answer(tool: &Tool, parts: &Parts, given: &Answer) -> String {
     let row = Row::numbered(parts.number);
-    let mut lines = vec![format!("{parts}: {}", row.map_or("no input has this number", |row| row.text))];
+    let input = parts.to_string();
+    let mut lines =
+        vec![format!("{}: {}", cut(&input), row.map_or("no input has this number", |row| row.text))];
     let name = row.and_then(|row| name_in(row, parts.name));
     if let Some(Ok(name)) = name {
         lines.extend(shortened(name, parts.name));
     }
     match given {
         Ok(_) => lines.push("accepted".into()),
-        Err(refusal) => {
-            lines.push(format!("refused, {}: {refusal}", refusal.number()));
-            let needed = needed(tool, *refusal, row, parts).into_iter();
-            lines.extend(needed.map(|needed| format!("needed: {needed}")));
-        }
+        Err(refusal) => lines.extend(refused(tool, parts, *refusal, row)),
     }
     lines.extend(print::reports(given).map(of_report));
     if given.is_ok() && row.is_some_and(|row| row.arguments.contains(&Argument::Codes)) {
@@ -68,6 +68,20 @@ pub fn answer(tool: &Tool, parts: &Parts, given: &Answer) -> String {
         lines.push(compared(expected, parts.codes));
     }
     lines.into_iter().map(|line| format!("  {line}\n")).collect()
+}
+
+/// The refusal and what the row's conditions are, and each cause with what to do. A refusal leaves the tool as it was,
+/// so that it is told of the tool that the input met.
+fn refused(tool: &Tool, parts: &Parts, refusal: Refusal, row: Option<&Row>) -> Vec<String> {
+    let mut lines = vec![format!("refused, {}: {refusal}", refusal.number())];
+    let needed = row.and_then(|row| row.conditions).filter(|_| refusal == Refusal::Conditions);
+    lines.extend(needed.map(|needed| format!("needed: {needed}")));
+    for ground in grounds::lowest(tool, parts) {
+        let detail = if ground.detail.is_empty() { String::new() } else { format!(": {}", ground.detail) };
+        lines.push(format!("because {}{detail}", ground.cause.text()));
+        lines.push(format!("next: {}", ground.cause.advice()));
+    }
+    lines
 }
 
 /// The name that a row uses, or why there is none; nothing where the row takes no name or it may be missing.
@@ -86,35 +100,6 @@ fn shortened(name: Name, text: &[u8]) -> Option<String> {
         0 => None,
         blanks => Some(format!("the name used is {name}, without {} at its end", counted(blanks, "blank"))),
     }
-}
-
-/// What was needed, where the refusal itself doesn't say it.
-fn needed(tool: &Tool, refusal: Refusal, row: Option<&Row>, parts: &Parts) -> Vec<String> {
-    if *tool == Tool::none() {
-        return vec!["a set-up, since there is no tool".into()];
-    }
-    let Some(row) = row else { return Vec::new() };
-    match refusal {
-        Refusal::OutOfRange => {
-            needed_name(row, parts.name).into_iter().chain(needed_map(row, parts.codes)).collect()
-        }
-        Refusal::Conditions => row.conditions.map(String::from).into_iter().collect(),
-        _ => Vec::new(),
-    }
-}
-
-fn needed_name(row: &Row, text: &[u8]) -> Option<String> {
-    let error = name_in(row, text)?.err()?;
-    Some(match text {
-        [] => "a name".into(),
-        _ => format!("another name: {error}"),
-    })
-}
-
-fn needed_map(row: &Row, codes: &[u8]) -> Option<String> {
-    let sent = row.arguments.contains(&Argument::MapOrNone) && !codes.is_empty();
-    let error = ExpectedMap::new(codes).err().filter(|_| sent)?;
-    Some(format!("no map, or another one: {error}"))
 }
 
 /// Whether the map is the expected one, and what follows from it.
@@ -148,7 +133,7 @@ fn of_report(Report { model, subject, old, new }: Report) -> String {
 mod tests {
     use super::*;
     use crate::print::tests::tool;
-    use hawsermole::Input;
+    use hawsermole::{ExpectedMap, Input};
 
     fn explained(tool: &mut Tool, input: Input) -> String {
         let given = tool.step(&input);
@@ -258,10 +243,10 @@ mod tests {
         };
         let short = told(&[3; 2]);
         assert!(short.starts_with("  Bind(1, AB, 2 codes): associate"), "{short}");
-        let needed = "\n  needed: no map, or another one: an expected map has";
-        assert!(short.ends_with(&format!("{needed} 25 codes, not 2\n")), "{short}");
-        assert!(told(&[5; SLOTS]).ends_with("alone, not 5 as at slot 1\n"));
-        assert!(!told(&[3; SLOTS]).contains("needed"));
+        let because = "\n  because the codes are no expected map: an expected map has 25 codes, not 2\n  next: send 25 codes";
+        assert!(short.contains(because), "{short}");
+        assert!(told(&[5; SLOTS]).contains("alone, not 5 as at slot 1\n"));
+        assert!(!told(&[3; SLOTS]).contains("because"));
     }
 
     /// The lines of an input by its parts, without the first two spaces of each.
@@ -280,10 +265,11 @@ mod tests {
         assert_eq!(bound[5], "carrier AB: record made, ID NOT READ");
         let unknown = lines(&mut tool, 19, b"X ", &[]);
         let used = "the name used is X, without 1 blank at its end";
-        assert_eq!(unknown[1..], [used, "refused, 2: the name has no record"]);
+        let because = "because the name has no record: X";
+        assert_eq!(unknown[1..4], [used, "refused, 2: the name has no record", because]);
         assert_eq!(lines(&mut tool, 19, b"X", &[])[1], "refused, 2: the name has no record");
         assert_eq!(lines(&mut tool, 13, b"X ", &[])[1], "accepted");
-        assert_eq!(lines(&mut Tool::none(), 19, b"X ", &[])[3], "needed: a set-up, since there is no tool");
+        assert_eq!(lines(&mut Tool::none(), 19, b"X ", &[])[3], "because there is no tool");
     }
 
     #[test]
@@ -300,31 +286,51 @@ mod tests {
     #[test]
     fn texts_that_are_no_name() {
         let mut tool = tool(1, 0, &[]);
-        let mut told = |number, name: &[u8]| lines(&mut tool, number, name, &[])[2..].join("; ");
-        let blank = "needed: another name: the text has a blank elsewhere than at the end, as byte 2";
+        let mut told = |number, name: &[u8]| lines(&mut tool, number, name, &[])[2].clone();
+        let blank = "because the text is no name: the text has a blank elsewhere than at the end, as byte 2";
         assert_eq!(told(19, b"A B"), blank);
-        assert_eq!(told(2, b"  "), "needed: another name: nothing is left without the blanks at the end");
-        assert_eq!(told(19, b""), "needed: a name");
+        let nothing = "because the text is no name: nothing is left without the blanks at the end";
+        assert_eq!(told(2, b"  "), nothing);
+        assert_eq!(told(19, b""), "because no name is given");
         assert!(told(2, b"").starts_with("needed: what is given means one tied pair"));
-        assert!(!told(24, b"A B").contains("name"));
+        assert_eq!(told(24, b"A B"), "needed: the port READY TO UNLOAD");
         let both = lines(&mut tool, 1, b" A", &[5]);
-        assert!(both[2].starts_with("needed: another name: ") && both[3].starts_with("needed: no map, or"));
+        assert!(
+            both[2].starts_with("because the text is no name: ") && both[3].starts_with("next: send 1 to 16")
+        );
+        assert!(both[4].starts_with("because the codes are no expected map: "), "{both:?}");
     }
 
     #[test]
     fn refusals() {
         let mut tool = Tool::setup(1, 0).unwrap();
         let unknown = explained(&mut tool, Input::Open { name: b"AB" });
-        assert_eq!(unknown, "  Open(AB): open a carrier\n  refused, 2: the name has no record\n");
+        let no_record =
+            "refused, 2: the name has no record\n  because the name has no record: AB\n  next: host: check";
+        assert!(unknown.starts_with(&format!("  Open(AB): open a carrier\n  {no_record}")), "{unknown}");
         let early = explained(&mut tool, Input::LoadDone { port: 1 });
         let conditions = "refused, 5: the row's conditions on state don't hold\n  needed: the port loading\n";
-        assert_eq!(early, format!("  LoadDone(1): the pod has arrived\n  {conditions}"));
+        let because =
+            "because no pod is being loaded: port 1 is READY TO LOAD, idle\n  next: LoadStart comes first.";
+        assert!(
+            early.starts_with(&format!("  LoadDone(1): the pod has arrived\n  {conditions}  {because}")),
+            "{early}"
+        );
         let parts = Parts { number: 27, ..Parts::default() };
         let given = tool.step_parts(&parts);
         let odd = answer(&tool, &parts, &given);
         assert!(odd.starts_with("  27: no input has this number\n  refused, 1: a port, place,"), "{odd}");
-        assert!(!odd.contains("needed"), "{odd}");
+        assert!(odd.contains("\n  because no input has this number: 27; inputs are 1 to 26\n"), "{odd}");
         let none = explained(&mut Tool::none(), Input::LoadDone { port: 1 });
-        assert!(none.ends_with("\n  needed: a set-up, since there is no tool\n"), "{none}");
+        assert!(none.contains("\n  because there is no tool\n  next: set one up, of 1 to 4 ports"), "{none}");
+    }
+
+    /// A name of any length is sent; of a long one the beginning is told.
+    #[test]
+    fn long_names_are_cut_where_they_are_told() {
+        let mut tool = Tool::setup(1, 0).unwrap();
+        let told = lines(&mut tool, 19, &[b'A'; 3_000_000], &[]);
+        assert_eq!(told[0], format!("Open({}..: open a carrier", "A".repeat(175)));
+        assert!(told[2].ends_with("the text has 3000000 bytes, more than 32"), "{told:?}");
     }
 }

@@ -1,15 +1,23 @@
 //! `hawsermole [FILE]` plays a script of E87 inputs on the proved machine, line by line as it comes.
 #![forbid(unsafe_code)]
 
+mod causes;
 mod explain;
+mod fields;
+mod grounds;
 mod items;
 mod message;
+mod numbers;
 mod options;
 mod people;
 mod player;
 mod print;
 mod run;
+#[cfg(test)]
+mod runs;
 mod script;
+mod soundness;
+mod standing;
 mod values;
 
 use options::Options;

@@ -59,7 +59,8 @@ fn codes(map: &[u8]) -> String {
     map.iter().map(|code| code.to_string()).collect()
 }
 
-fn place(carrier: &Carrier) -> String {
+/// `expected at port 1`, `at port 1`, `in buffer place 2`.
+pub fn place(carrier: &Carrier) -> String {
     match (carrier.place, carrier.port) {
         (0, 0) => "expected".into(),
         (0, port) => format!("expected at port {port}"),

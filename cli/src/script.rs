@@ -24,7 +24,7 @@ pub enum Command {
 }
 
 /// An input as it was written, ready to be sent.
-#[derive(Debug, Default, PartialEq, Eq)]
+#[derive(Clone, Debug, Default, PartialEq, Eq)]
 pub struct Sent {
     pub number: u32,
     pub port: u32,

@@ -51,9 +51,26 @@ pub fn missing(what: &str, usage: &str) -> String {
     format!("{what} missing: expected {usage}")
 }
 
-/// A word as it can be shown in a message.
-pub fn shown(word: &[u8]) -> impl std::fmt::Display + '_ {
-    word.escape_ascii()
+/// The most characters of a word that a message shows.
+const SHOWN: usize = 60;
+/// The most characters of an input that an explanation shows: the longest row with a name of 32 bytes has fewer.
+const TOLD: usize = 180;
+
+/// A word as it can be shown in a message: the beginning of a long one, and how long it is.
+pub fn shown(word: &[u8]) -> String {
+    let text: String = word.escape_ascii().map(char::from).take(SHOWN + 1).collect();
+    match text.len() > SHOWN {
+        true => format!("{}.. ({} bytes)", &text[..SHOWN], word.len()),
+        false => text,
+    }
+}
+
+/// An input as it is told: the beginning of a long one. All of it is ASCII.
+pub fn cut(input: &str) -> String {
+    match input.get(..TOLD) {
+        Some(beginning) if input.len() > TOLD => format!("{beginning}.."),
+        _ => input.into(),
+    }
 }
 
 fn wrong(what: &str, word: &[u8], expected: &str) -> String {

@@ -1,0 +1,46 @@
+//! Document 01's numbers, by name.
+
+/// Transfer state of a port.
+pub mod transfer {
+    pub const OUT_OF_SERVICE: u8 = 0;
+    pub const READY_TO_LOAD: u8 = 1;
+    pub const READY_TO_UNLOAD: u8 = 2;
+    pub const BLOCKED: u8 = 3;
+}
+
+/// Movement at a port.
+pub mod movement {
+    pub const NONE: u8 = 0;
+    pub const LOADING: u8 = 1;
+    pub const UNLOADING: u8 = 2;
+}
+
+/// Tag at a port.
+pub mod tag {
+    pub const UNREAD: u8 = 0;
+    pub const FAILED: u8 = 2;
+}
+
+/// Place of a carrier.
+pub mod place {
+    pub const EXPECTED: u8 = 0;
+    pub const PORT: u8 = 1;
+    pub const BUFFER: u8 = 2;
+}
+
+/// ID and slot map status of a carrier.
+pub mod status {
+    pub const NOT_READ: u8 = 1;
+    pub const WAITING: u8 = 2;
+    pub const OK: u8 = 3;
+    pub const FAILED: u8 = 4;
+}
+
+/// Accessing status of a carrier.
+pub mod accessing {
+    pub const NOT_ACCESSED: u8 = 1;
+    pub const IN_ACCESS: u8 = 2;
+}
+
+/// The most carriers that are expected.
+pub const MOST_EXPECTED: usize = 16;

@@ -1,0 +1,151 @@
+//! What tests run on: every state that runs of a small tool reach, the states of a long run, and odd ones.
+use crate::script::Sent;
+use hawsermole::{Argument, Tool, ROWS, SLOTS, TOOL_BYTES};
+use std::collections::BTreeSet;
+
+/// Numbers that look like chance and are the same in every test.
+pub struct Dice(u64);
+
+impl Dice {
+    pub fn new(seed: u64) -> Dice {
+        Dice(seed.wrapping_mul(2).wrapping_add(1))
+    }
+
+    /// 0 to one less than the number of sides.
+    pub fn below(&mut self, sides: usize) -> usize {
+        self.0 = self.0.wrapping_mul(6_364_136_223_846_793_005).wrapping_add(1_442_695_040_888_963_407);
+        (self.0 >> 33) as usize % sides
+    }
+
+    pub fn one<'a, T>(&mut self, of: &'a [T]) -> &'a T {
+        &of[self.below(of.len())]
+    }
+}
+
+/// What an argument may be: a port, a second number, a name, codes.
+type Choice = Box<dyn Fn(&mut Sent)>;
+
+fn numbers(last: u32, set: fn(&mut Sent, u32)) -> Vec<Choice> {
+    (0..=last).map(|number| Box::new(move |sent: &mut Sent| set(sent, number)) as Choice).collect()
+}
+
+fn texts(texts: &[&[u8]], set: fn(&mut Sent, Vec<u8>)) -> Vec<Choice> {
+    let choice = |text: &&[u8]| {
+        let text = text.to_vec();
+        Box::new(move |sent: &mut Sent| set(sent, text.clone())) as Choice
+    };
+    texts.iter().map(choice).collect()
+}
+
+/// Every input to a tool: each row with each choice of its arguments. `odd` adds what is outside the ranges.
+pub fn inputs(ports: u32, places: u32, names: &[&[u8]], odd: bool) -> Vec<Sent> {
+    let beyond = u32::from(odd);
+    let odd_texts: &[&[u8]] = if odd { &[b"", b"  ", b"A B", b"A  ", &[b'A'; 17]] } else { &[b""] };
+    let (threes, sixes): (&[u8], &[u8]) = (&[3; SLOTS], &[6; SLOTS]);
+    let odd_codes: &[&[u8]] = if odd { &[sixes, &[3; 24]] } else { &[] };
+    let (codes, maps) = ([&[threes], odd_codes].concat(), [&[b"" as &[u8]], odd_codes].concat());
+    let names = [names, odd_texts].concat();
+    let mut every = Vec::new();
+    for row in &ROWS {
+        let mut sent = vec![Sent { number: row.number, ..Sent::default() }];
+        for argument in row.arguments {
+            let choices = match argument {
+                Argument::Port | Argument::PortOrNone => {
+                    numbers(ports + beyond, |sent, port| sent.port = port)
+                }
+                Argument::Place => numbers(places + beyond, |sent, value| sent.value = value),
+                Argument::Access | Argument::Service | Argument::End => {
+                    numbers(1 + beyond, |sent, value| sent.value = value)
+                }
+                Argument::Name | Argument::NameOrNone => texts(&names, |sent, name| sent.name = name),
+                Argument::Codes => texts(&codes, |sent, codes| sent.codes = codes),
+                Argument::MapOrNone => texts(&maps, |sent, codes| sent.codes = codes),
+            };
+            sent = with_each(&sent, &choices);
+        }
+        every.extend(sent);
+    }
+    every
+}
+
+fn with_each(sent: &[Sent], choices: &[Choice]) -> Vec<Sent> {
+    let with = |sent: &Sent, choice: &Choice| {
+        let mut sent = sent.clone();
+        choice(&mut sent);
+        sent
+    };
+    sent.iter().flat_map(|sent| choices.iter().map(move |choice| with(sent, choice))).collect()
+}
+
+/// The states that runs of these inputs reach, in the order in which they are met, but no more than so many.
+pub fn reached(ports: u32, places: u32, inputs: &[Sent], most: usize) -> Vec<Tool> {
+    let mut states = vec![Tool::setup(ports, places).unwrap()];
+    let mut met = BTreeSet::from([key(&states[0])]);
+    let mut next = 0;
+    while next < states.len() && states.len() < most {
+        for sent in inputs {
+            let mut tool = states[next].clone();
+            if tool.step_parts(&sent.parts()).is_ok() && met.insert(key(&tool)) {
+                states.push(tool);
+            }
+        }
+        next += 1;
+    }
+    states
+}
+
+/// The bytes of a tool that its ports and its first few records use.
+fn key(tool: &Tool) -> Vec<u8> {
+    [&tool.as_bytes()[..91], tool.records().concat().as_slice(), &tool.as_bytes()[1891..1966]].concat()
+}
+
+/// Rows that take back, turn away or let go: drawn less often, so that a run fills its tool.
+const BACKWARD: [u32; 8] = [2, 4, 6, 10, 12, 15, 24, 26];
+
+/// The states of one long run.
+pub fn long_run(ports: u32, places: u32, inputs: &[Sent], steps: usize, dice: &mut Dice) -> Vec<Tool> {
+    let mut tool = Tool::setup(ports, places).unwrap();
+    let mut states = Vec::new();
+    for _ in 0..steps {
+        let sent = dice.one(inputs);
+        let drawn = !BACKWARD.contains(&sent.number) || dice.below(8) == 0;
+        if drawn && tool.step_parts(&sent.parts()).is_ok() {
+            states.push(tool.clone());
+        }
+    }
+    states
+}
+
+/// The tool with some of its bytes changed: any, or fields in their ranges, so that it may be sound and odd.
+pub fn damaged(tool: &Tool, dice: &mut Dice) -> Tool {
+    let mut bytes = *tool.as_bytes();
+    for _ in 0..1 + dice.below(3) {
+        match dice.below(4) {
+            0 => bytes[dice.below(TOOL_BYTES)] = dice.below(256) as u8,
+            1 => bytes[1891 + dice.below(75)] = dice.below(5) as u8,
+            2 => change_port(&mut bytes, 3 + 22 * dice.below(tool.ports().len()), dice),
+            _ if tool.records().is_empty() => bytes[91 + dice.below(50)] = 1,
+            _ => change_record(&mut bytes, tool, dice),
+        }
+    }
+    Tool::from_bytes(&bytes)
+}
+
+fn change_port(bytes: &mut [u8; TOOL_BYTES], start: usize, dice: &mut Dice) {
+    let (offset, values) = *dice.one(&[(0, 4), (0, 4), (1, 2), (2, 2), (19, 3), (20, 2), (21, 3), (3, 128)]);
+    bytes[start + offset] = dice.below(values) as u8;
+}
+
+fn change_record(bytes: &mut [u8; TOOL_BYTES], tool: &Tool, dice: &mut Dice) {
+    let (places, ports, records) = (usize::from(tool.places()), tool.ports().len(), tool.records().len());
+    let start = 91 + 50 * dice.below(records);
+    let other = 91 + 50 * dice.below(records);
+    match dice.below(6) {
+        0 => bytes.copy_within(other..other + 16, start),
+        1 => bytes[start + 18] = dice.below(ports + 1) as u8,
+        2 => (bytes[start + 16], bytes[start + 17]) = (2, dice.below(places + 1) as u8),
+        3 => (bytes[start + 16], bytes[start + 17]) = (dice.below(2) as u8, 0),
+        4 => bytes[start + 19 + dice.below(3)] = dice.below(2) as u8,
+        _ => bytes[start + 47 + dice.below(3)] = 1 + dice.below(4) as u8,
+    }
+}
