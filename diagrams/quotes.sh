@@ -4,6 +4,7 @@
 #   diagrams/quotes.sh PROGRAM..       e.g.  diagrams/quotes.sh target/hawsermole
 #
 # Blocks marked `played` go to the command line: lines that begin with > are typed, the others are its output.
+# Blocks marked `checked` are scripts that are tests: each must be met.
 # Blocks marked `c` are compiled by $CC, and one with a main is linked with the library and run by $EMULATOR,
 # where that is set; the block `printed` after it is what it prints.
 # The block `side` has the name check to the right of its bars, line for line; the table of texts says of each how many
@@ -38,6 +39,13 @@ sed -n 's/^> //p' "$work/played" >"$work/typed"
 sed '/^> /d' "$work/played" >"$work/wanted"
 "$@" "$work/typed" >"$work/got" || fail "the command line can't read what the manual types"
 same "the command line's output" "$work/wanted" "$work/got"
+
+checked=0
+for script in "$work"/*.checked; do
+    [ -e "$script" ] || fail "no block is a script that is a test"
+    "$@" --check "$script" >"$work/got" || fail "a script that is a test isn't met"
+    checked=$((checked + 1))
+done
 
 run=0
 for source in "$work"/*.c; do
@@ -86,4 +94,6 @@ texts=$(cat "$work/count")
 "$@" "$work/texts" >"$work/got" || fail "the command line can't read the table of texts"
 same "the table of texts" "$work/wanted" "$work/got"
 
-echo "quotes: $(grep -c . "$work/typed") lines played, $run C programs run, the name check and $texts texts: as the manual says"
+typed=$(grep -c . "$work/typed")
+echo "quotes: $typed lines played, $checked scripts checked, $run C programs run, the name check and $texts texts:" \
+    "as the manual says"

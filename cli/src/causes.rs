@@ -80,7 +80,7 @@ causes! {
         "CancelBind there, CarrierNotification, and IdRead again: OK; without the notification it waits for the host"
 
     Reserved ReservedOrTied "the port is reserved"
-        "end it by CancelReservationAtPort, or CancelBind if the port is tied; LoadStart ends it too. Or take another port"
+        "end it by CancelReservationAtPort, CancelBind if the port is tied, or LoadStart. Or take another port"
     Tied ReservedOrTied "the port is tied"
         "CancelBind while its carrier is expected, else wait until that has moved in or left. Or take another port"
 

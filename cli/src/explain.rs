@@ -243,7 +243,8 @@ mod tests {
         };
         let short = told(&[3; 2]);
         assert!(short.starts_with("  Bind(1, AB, 2 codes): associate"), "{short}");
-        let because = "\n  because the codes are no expected map: an expected map has 25 codes, not 2\n  next: send 25 codes";
+        let because =
+            "\n  because the codes are no expected map: an expected map has 25 codes, not 2\n  next: send";
         assert!(short.contains(because), "{short}");
         assert!(told(&[5; SLOTS]).contains("alone, not 5 as at slot 1\n"));
         assert!(!told(&[3; SLOTS]).contains("because"));

@@ -2,6 +2,7 @@
 #![forbid(unsafe_code)]
 
 mod causes;
+mod dialogue;
 mod explain;
 mod fields;
 mod grounds;
@@ -21,18 +22,23 @@ mod standing;
 mod values;
 
 use options::Options;
-use std::io::{self, Write};
+use run::End;
+use std::io;
 use std::process::ExitCode;
 
-/// Everything that goes wrong ends with this status.
+/// What was expected wasn't printed.
+const UNMET: u8 = 1;
+/// Everything else that goes wrong.
 const TROUBLE: u8 = 2;
 
 fn main() -> ExitCode {
     match options::read(std::env::args_os().skip(1)) {
         Ok(Options::Help) => say(&options::help()),
         Ok(Options::Version) => say(&format!("hawsermole {}\n", env!("CARGO_PKG_VERSION"))),
-        Ok(Options::Play { file, explain }) => match run::play(file.as_deref(), explain) {
-            Ok(()) => ExitCode::SUCCESS,
+        Ok(Options::Play { file, manner }) => match run::play(file.as_deref(), manner) {
+            Ok(End::Well) => ExitCode::SUCCESS,
+            Ok(End::Unmet) => ExitCode::from(UNMET),
+            Ok(End::Unreadable) => ExitCode::from(TROUBLE),
             Err(message) => fail(&message),
         },
         Err(message) => fail(&format!("{message}\n{}", options::USAGE)),
@@ -47,7 +53,6 @@ fn say(text: &str) -> ExitCode {
 }
 
 fn fail(message: &str) -> ExitCode {
-    // Nobody is left to tell if standard error is gone too.
-    let _ = writeln!(io::stderr(), "hawsermole: {message}");
+    run::tell(&mut io::stderr(), message);
     ExitCode::from(TROUBLE)
 }

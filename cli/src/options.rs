@@ -5,7 +5,8 @@ use std::ffi::{OsStr, OsString};
 use std::path::PathBuf;
 
 /// One line on how to call the program.
-pub const USAGE: &str = "usage: hawsermole [--explain] [FILE]   (hawsermole --help says more)";
+pub const USAGE: &str =
+    "usage: hawsermole [--explain] [--keep-going] [--check] [FILE]   (hawsermole --help says more)";
 
 /// What to do.
 #[derive(Debug, PartialEq, Eq)]
@@ -15,13 +16,24 @@ pub enum Options {
     /// No file is standard input.
     Play {
         file: Option<PathBuf>,
-        explain: bool,
+        manner: Manner,
     },
+}
+
+/// How a script is played.
+#[derive(Clone, Copy, Debug, Default, PartialEq, Eq)]
+pub struct Manner {
+    /// Lines in E87's words below each answer.
+    pub explain: bool,
+    /// A line that can't be carried out is told, and the run goes on.
+    pub keep_going: bool,
+    /// What is printed is held to the lines that `expect` it.
+    pub check: bool,
 }
 
 /// Reads the arguments; `Err` says what is wrong with them.
 pub fn read(arguments: impl Iterator<Item = OsString>) -> Result<Options, String> {
-    let (mut file, mut explain, mut only_files) = (None, false, false);
+    let (mut file, mut manner, mut only_files) = (None, Manner::default(), false);
     for argument in arguments {
         let dashed = argument.as_encoded_bytes().starts_with(b"-") && argument != "-";
         if only_files || !dashed {
@@ -31,15 +43,17 @@ pub fn read(arguments: impl Iterator<Item = OsString>) -> Result<Options, String
             continue;
         }
         match argument.to_str() {
-            Some("--help") => return Ok(Options::Help),
+            Some("--help" | "-h") => return Ok(Options::Help),
             Some("--version") => return Ok(Options::Version),
-            Some("--explain") => explain = true,
+            Some("--explain") => manner.explain = true,
+            Some("--keep-going") => manner.keep_going = true,
+            Some("--check") => manner.check = true,
             Some("--") => only_files = true,
-            _ => return Err(format!("unknown option '{}'", argument.display())),
+            _ => return Err(format!("unknown option '{}'", values::shown(argument.as_encoded_bytes()))),
         }
     }
     let file = file.filter(|file| file.as_os_str() != OsStr::new("-")).map(PathBuf::from);
-    Ok(Options::Play { file, explain })
+    Ok(Options::Play { file, manner })
 }
 
 /// The text of `--help`.
@@ -65,15 +79,17 @@ pub fn help() -> String {
 }
 
 const HELP: &str = "\
-usage: hawsermole [--explain] [FILE]
+usage: hawsermole [--explain] [--keep-going] [--check] [FILE]
 
 Plays a script of SEMI E87 inputs on the proved machine, line by line as it comes, from FILE or
 standard input (no FILE, or -).
 
-  --explain   adds lines in E87's words to each answer and report, the name used for a padded one, and
-              the items of a message
-  --help      prints this
-  --version   prints the version
+  --explain     adds lines in E87's words to each answer and report, the cause of a refusal and what to
+                do, the name used for a padded one, and the items of a message
+  --keep-going  tells of a line that can't be carried out and goes on, as at a terminal
+  --check       ends with status 1 unless every line that expect names was printed
+  --help, -h    prints this
+  --version     prints the version
 
 A script has one command on each line, its words apart by spaces or tabs. An empty line, and one that
 begins with #, prints nothing.
@@ -84,6 +100,11 @@ begins with #, prints nothing.
   dump                              the whole state, for programs
   state                             the same, for people
   waiting                           the first carrier that waits for the host
+  save FILE                         the tool's bytes to a file
+  load FILE                         the tool from such a file, sound or not
+  undo                              takes back the last line that changed the tool, up to 1000 of them
+  expect WORD..                     what the line before must have printed; a last word .. stands for any
+                                    more. Of several such lines each is held to one line that was printed
 
 Inputs by name, with names as text:
 
@@ -106,10 +127,14 @@ dump prints    port I TRANSFER ACCESS RESERVED TIE MOVEMENT POD TAG
                end
 waiting prints waiting POSITION READ, or waiting none READ   the place of the first record, from 0,
                whose carrier waits for the host, and how many records were read to know
+save prints    save BYTES
+load prints    load sound; load unsound and which clause fails; or load none, for a file of zeros
+undo prints    undo LINE, the line that is taken back, or undo none
+expect prints  nothing
 
 Before a set-up, and after one that was refused, there is no tool: every input is answered 1, and a
-message is read all the same. A line that can't be read is named on standard error and ends the run with
-status 2.
+message is read all the same. A line that can't be carried out is named on standard error, the tool stays
+as it is, and the run ends with status 2: at once, or with --keep-going or at a terminal after the last line.
 
 ANSWER is 0, accepted, or why it was refused (the lowest number that applies); REFUSAL 20 to 26 is the
 first that was met, and the lowest at one item:
@@ -125,7 +150,7 @@ mod tests {
     }
 
     fn play(file: Option<&str>, explain: bool) -> Result<Options, String> {
-        Ok(Options::Play { file: file.map(PathBuf::from), explain })
+        Ok(Options::Play { file: file.map(PathBuf::from), manner: Manner { explain, ..Manner::default() } })
     }
 
     #[test]
@@ -143,7 +168,19 @@ mod tests {
         assert_eq!(asked(&["--explain", "a"]), play(Some("a"), true));
         assert_eq!(asked(&["a", "--explain"]), play(Some("a"), true));
         assert_eq!(asked(&["--help", "--nonsense"]), Ok(Options::Help));
+        assert_eq!(asked(&["-h"]), Ok(Options::Help));
         assert_eq!(asked(&["--version"]), Ok(Options::Version));
+    }
+
+    #[test]
+    fn each_option_sets_its_own() {
+        let manner = |argument| match asked(&[argument]) {
+            Ok(Options::Play { file: None, manner }) => (manner.explain, manner.keep_going, manner.check),
+            other => panic!("{other:?}"),
+        };
+        assert_eq!(manner("--explain"), (true, false, false));
+        assert_eq!(manner("--keep-going"), (false, true, false));
+        assert_eq!(manner("--check"), (false, false, true));
     }
 
     #[test]

@@ -1,5 +1,6 @@
 //! The tool for people: what `state` prints.
 use crate::explain::tool_kind;
+use crate::soundness;
 use hawsermole::{words, Carrier, Port, Tool};
 
 /// A line for the tool, for each port and for each carrier.
@@ -10,7 +11,8 @@ pub fn state(tool: &Tool) -> String {
     let ports: String = tool.ports().map(port).collect();
     let carriers: String = tool.carriers().map(|of| carrier(tool, of)).collect();
     let carriers = if carriers.is_empty() { "no carriers\n".into() } else { carriers };
-    format!("{}\n", tool_kind(tool)) + &ports + &carriers
+    let fault = soundness::fault(tool).map_or(String::new(), |fault| format!("not sound, {fault}\n"));
+    format!("{}\n", tool_kind(tool)) + &fault + &ports + &carriers
 }
 
 fn port(port: Port) -> String {
@@ -88,6 +90,16 @@ mod tests {
     fn an_empty_tool() {
         let port = "READY TO LOAD, MANUAL, NOT RESERVED, NOT ASSOCIATED, idle, no pod";
         assert_eq!(after(1, 0, &[]), format!("fixed buffer tool, 1 port\nport 1: {port}\nno carriers\n"));
+    }
+
+    #[test]
+    fn a_tool_that_is_not_sound() {
+        let mut bytes = *Tool::setup(1, 0).unwrap().as_bytes();
+        bytes[23] = 1;
+        let told = state(&Tool::from_bytes(&bytes));
+        let second = "not sound, not so: a port with a movement is BLOCKED, and one that is out of service, \
+                      READY TO LOAD or loading has no pod (port 1 is READY TO LOAD, idle, with a pod present)";
+        assert_eq!(told.lines().nth(1), Some(second));
     }
 
     #[test]

@@ -15,7 +15,20 @@ impl Player {
         Player { tool: Tool::none(), explain }
     }
 
-    /// Carries a command out and gives what it prints.
+    pub fn tool(&self) -> &Tool {
+        &self.tool
+    }
+
+    pub fn explains(&self) -> bool {
+        self.explain
+    }
+
+    /// Goes on with another tool, and gives the one that was there.
+    pub fn replace(&mut self, tool: Tool) -> Tool {
+        std::mem::replace(&mut self.tool, tool)
+    }
+
+    /// Carries a command out and gives what it prints; those of the dialogue around it print nothing here.
     pub fn play(&mut self, command: &Command) -> String {
         match command {
             Command::Nothing => String::new(),
@@ -26,6 +39,7 @@ impl Player {
             Command::Dump => print::dump(&self.tool),
             Command::State => people::state(&self.tool),
             Command::Waiting => self.waiting(),
+            Command::Save(_) | Command::Load(_) | Command::Undo | Command::Expect(_) => String::new(),
         }
     }
 

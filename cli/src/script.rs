@@ -1,6 +1,9 @@
 //! The reader of lines: what each line of a script asks for.
 use crate::values::{self, shown, Words, NONE};
 use hawsermole::{Argument, Parts, Row, ROWS};
+use std::ffi::OsStr;
+use std::os::unix::ffi::OsStrExt;
+use std::path::PathBuf;
 
 /// What a line asks for.
 #[derive(Debug, PartialEq, Eq)]
@@ -21,6 +24,11 @@ pub enum Command {
     State,
     /// Is anyone waiting?
     Waiting,
+    /// Of the dialogue around the tool: its bytes to a file and from one, a change taken back, what was printed.
+    Save(PathBuf),
+    Load(PathBuf),
+    Undo,
+    Expect(Vec<String>),
 }
 
 /// An input as it was written, ready to be sent.
@@ -47,6 +55,10 @@ const SECS: &str = "secs HEX";
 const DUMP: &str = "dump";
 const STATE: &str = "state";
 const WAITING: &str = "waiting";
+const SAVE: &str = "save FILE";
+const LOAD: &str = "load FILE";
+const UNDO: &str = "undo";
+const EXPECT: &str = "expect WORD..";
 
 /// Reads a line, with or without its end. `Err` says what is wrong with it.
 pub fn read(line: &[u8]) -> Result<Command, String> {
@@ -60,6 +72,10 @@ pub fn read(line: &[u8]) -> Result<Command, String> {
         Some(b"dump") => words.end(DUMP).map(|()| Command::Dump),
         Some(b"state") => words.end(STATE).map(|()| Command::State),
         Some(b"waiting") => words.end(WAITING).map(|()| Command::Waiting),
+        Some(b"save") => read_file(words, SAVE).map(Command::Save),
+        Some(b"load") => read_file(words, LOAD).map(Command::Load),
+        Some(b"undo") => words.end(UNDO).map(|()| Command::Undo),
+        Some(b"expect") => read_expect(words),
         Some(first) => read_named(first, words),
     }
 }
@@ -87,6 +103,19 @@ fn read_secs(mut words: Words) -> Result<Command, String> {
     let message = values::hex("message", words.argument("message", SECS)?)?;
     words.end(SECS)?;
     Ok(Command::Secs(message))
+}
+
+fn read_file(mut words: Words, usage: &str) -> Result<PathBuf, String> {
+    let file = words.argument("file", usage)?;
+    words.end(usage)?;
+    Ok(OsStr::from_bytes(file).into())
+}
+
+/// Words of bytes that aren't UTF-8 are met by nothing that is printed.
+fn read_expect(mut words: Words) -> Result<Command, String> {
+    let first = words.argument("word", EXPECT)?;
+    let every = std::iter::once(first).chain(words);
+    Ok(Command::Expect(every.map(|word| String::from_utf8_lossy(word).into()).collect()))
 }
 
 fn read_named(first: &[u8], mut words: Words) -> Result<Command, String> {
@@ -127,12 +156,12 @@ pub fn usage(row: &Row) -> String {
 }
 
 fn unknown(word: &[u8]) -> String {
-    let commands = ["setup", "in", "secs", "dump", "state", "waiting"];
+    let commands = ["setup", "in", "secs", "dump", "state", "waiting", "save", "load", "undo", "expect"];
     let mut known = commands.into_iter().chain(ROWS.iter().map(|row| row.name));
     match known.find(|known| known.as_bytes().eq_ignore_ascii_case(word)) {
         Some(near) => format!("unknown word '{}': it is written {near}", shown(word)),
         None => format!(
-            "unknown word '{}': expected setup, in, secs, dump, state, waiting or an input's name such as Bind",
+            "unknown word '{}': expected an input's name such as Bind, or another command (--help lists them)",
             shown(word)
         ),
     }
@@ -171,6 +200,10 @@ mod tests {
         assert_eq!(read(b"dump\r\n"), Ok(Command::Dump));
         assert_eq!(read(b"\tstate "), Ok(Command::State));
         assert_eq!(read(b"waiting\n"), Ok(Command::Waiting));
+        assert_eq!(read(b"save a/b.tool\n"), Ok(Command::Save("a/b.tool".into())));
+        assert_eq!(read(b"load -"), Ok(Command::Load("-".into())));
+        assert_eq!(read(b"undo"), Ok(Command::Undo));
+        assert_eq!(read(b"expect 0  none\n"), Ok(Command::Expect(vec!["0".into(), "none".into()])));
         assert_eq!(read(b"secs 0100"), Ok(Command::Secs(vec![1, 0])));
         assert_eq!(read(b"secs -"), Ok(Command::Secs(vec![])));
         assert_eq!(read(b"in 20 1 2 4142 0305"), Ok(Command::In(sent(20, 1, 2, b"AB", &[3, 5]))));
@@ -222,12 +255,13 @@ mod tests {
 
     #[test]
     fn unknown_words() {
-        let expected = "expected setup, in, secs, dump, state, waiting or an input's name such as Bind";
+        let expected = "expected an input's name such as Bind, or another command (--help lists them)";
         assert_eq!(error("Frobnicate 1"), format!("unknown word 'Frobnicate': {expected}"));
         assert_eq!(read(b"\xfe\xff").unwrap_err(), format!("unknown word '\\xfe\\xff': {expected}"));
         assert_eq!(error("bind 1 AB"), "unknown word 'bind': it is written Bind");
         assert_eq!(error("SETUP 1 0"), "unknown word 'SETUP': it is written setup");
         assert_eq!(error("Waiting"), "unknown word 'Waiting': it is written waiting");
+        assert_eq!(error("UNDO"), "unknown word 'UNDO': it is written undo");
     }
 
     #[test]
@@ -236,6 +270,8 @@ mod tests {
         assert_eq!(error("Bind"), "port missing: expected Bind PORT NAME [MAP]");
         assert_eq!(error("SlotMap AB"), "codes missing: expected SlotMap NAME CODES");
         assert_eq!(error("secs"), "message missing: expected secs HEX");
+        assert_eq!(error("save"), "file missing: expected save FILE");
+        assert_eq!(error("expect"), "word missing: expected expect WORD..");
         assert_eq!(error("setup 1"), "number of buffer places missing: expected setup P B");
         assert_eq!(error("in 1 1 0 4142"), "codes missing: expected in NUMBER PORT VALUE NAME CODES");
     }
@@ -247,6 +283,8 @@ mod tests {
         assert_eq!(error("secs 01 00"), "'00' is one word too many: expected secs HEX");
         assert_eq!(error("dump 1"), "'1' is one word too many: expected dump");
         assert_eq!(error("waiting 1"), "'1' is one word too many: expected waiting");
+        assert_eq!(error("load a b"), "'b' is one word too many: expected load FILE");
+        assert_eq!(error("undo 2"), "'2' is one word too many: expected undo");
         assert_eq!(error("setup 1 0 0"), "'0' is one word too many: expected setup P B");
         assert_eq!(
             error("in 1 1 0 - - -"),

@@ -143,6 +143,14 @@ mod tests {
     }
 
     #[test]
+    fn long_words_are_shown_in_part() {
+        assert_eq!(shown(&[b'A'; 60]), "A".repeat(60));
+        assert_eq!(shown(&[b'A'; 61]), format!("{}.. (61 bytes)", "A".repeat(60)));
+        assert_eq!(shown(&[0xff; 3_000_000]), format!("{}.. (3000000 bytes)", "\\xff".repeat(15)));
+        assert_eq!((cut(&"A".repeat(180)), cut(&"A".repeat(181))), ("A".repeat(180), "A".repeat(180) + ".."));
+    }
+
+    #[test]
     fn numbers_are_decimal_and_not_cut() {
         assert_eq!(number("n", b"0"), Ok(0));
         assert_eq!(number("n", b"007"), Ok(7));

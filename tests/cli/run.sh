@@ -102,10 +102,23 @@ odd_bytes() {
     printf 'setup 0\n1  none\n1  none\n1  none\n' | want 0
     printf 'setup 1 0\nBind 1 A\377\nOpen \303\050\nOpen A\000B\n' | play
     outcome "names that aren't UTF-8"
-    expected="expected setup, in, secs, dump, state, waiting or an input's name such as Bind"
+    expected="expected an input's name such as Bind, or another command (--help lists them)"
     printf 'setup 0\n' | want 2 "hawsermole: line 2: unknown word '\\xfe\\xff\\x00': $expected"
     printf 'setup 1 0\n\376\377\000\n' | play
     outcome "a word that isn't UTF-8"
+}
+
+# Of a word of three million bytes the beginning is shown, as of an option.
+long_words() {
+    long=$(printf '%060d' 0 | tr 0 A)
+    bytes=$(printf '%03000000d' 0 | tr 0 A)
+    want 2 "hawsermole: line 1: unknown word '$long.. (3000000 bytes)': expected an input's name such as Bind, or \
+another command (--help lists them)" </dev/null
+    printf '%s\n' "$bytes" | play
+    outcome "a long word"
+    want 2 "hawsermole: line 1: port: '$long.. (3000000 bytes)' is not a number from 0 to 4294967295" </dev/null
+    printf 'LoadStart %s\n' "$bytes" | play
+    outcome "a long number"
 }
 
 # Each line that can't be read is the second of three: the first is answered, the third is never reached.
@@ -123,7 +136,7 @@ unreadable() {
 
 # Files and options that can't be used. What the system says of a file is its own matter: only our part is compared.
 wrong_calls() {
-    usage='usage: hawsermole [--explain] [FILE]   (hawsermole --help says more)'
+    usage='usage: hawsermole [--explain] [--keep-going] [--check] [FILE]   (hawsermole --help says more)'
     want 2 "hawsermole: unknown option '--explian'" "$usage" </dev/null
     play --explian "$root/examples/twelve_rows.script" </dev/null
     outcome "an unknown option"
@@ -143,14 +156,77 @@ unusable() {
 }
 
 prints() {
-    echo 'usage: hawsermole [--explain] [FILE]' | want 0
-    play --help </dev/null
-    edit out '1!d'
-    outcome "--help"
+    for help in --help -h; do
+        echo 'usage: hawsermole [--explain] [--keep-going] [--check] [FILE]' | want 0
+        play "$help" </dev/null
+        edit out '1!d'
+        outcome "$help"
+    done
     echo 'hawsermole N.N.N' | want 0
     play --version </dev/null
     edit out 's/[0-9][0-9]*/N/g'
     outcome "--version"
+}
+
+# A slip is told, and the tool stays: with --keep-going, and at a terminal, where `script` is one.
+slips() {
+    printf 'setup 0\n0  1 1 1>3\n' | want 2 "hawsermole: line 2: port missing: expected LoadStart PORT" \
+        "hawsermole: line 3: unknown word 'loadstart': it is written LoadStart"
+    printf 'setup 1 0\nLoadStart\nloadstart 1\nLoadStart 1\n' >"$work/slips"
+    play --keep-going "$work/slips" </dev/null
+    outcome "slips with --keep-going"
+    play --keep-going <"$work/slips"
+    outcome "slips on standard input with --keep-going"
+    printf 'setup 0\n' | want 2 "hawsermole: line 2: port missing: expected LoadStart PORT"
+    play <"$work/slips"
+    outcome "a slip without"
+    { cat "$work/slips"; printf '\004'; } | script -qec "sh '$work/hawsermole'" /dev/null >"$work/terminal" 2>&1
+    echo $? >"$work/status"
+    tr -d '\r' <"$work/terminal" | grep -c 'hawsermole: line [23]: \|setup 0$\|0  1 1 1>3$' >"$work/out"
+    : >"$work/err"
+    echo 4 | want 2
+    outcome "slips at a terminal"
+}
+
+# The tool's bytes go to a file and come back; another length, and a damaged tool, are told.
+files() {
+    saved=$work/saved
+    printf 'setup 0\n0  1 1 1>3\nsave 3782\n5  none\n' | want 0
+    printf 'setup 1 0\nLoadStart 1\nsave %s\nLoadStart 1\n' "$saved" | play
+    outcome "save"
+    printf 'load sound\n0  none\n' | want 0
+    printf 'load %s\nLoadDone 1\n' "$saved" | play
+    outcome "load"
+    { printf '\005'; tail -c +2 "$saved"; } >"$work/damaged"
+    printf 'load unsound, not so: every field is in its range (ports 5, not 1 to 4 (byte 0))\n' >"$work/unsound"
+    printf '1  none\nundo LINE\nend\n' | cat "$work/unsound" - | want 0
+    printf 'load %s\nLoadDone 1\nundo\ndump\n' "$work/damaged" | play
+    edit out 's/^undo ..*/undo LINE/'
+    outcome "load of a damaged tool"
+    tail -c +2 "$saved" >"$work/short"
+    echo 'setup 0' | want 2 "hawsermole: line 2: FILE: it has 3781 bytes, and a tool has 3782"
+    printf 'setup 1 0\nload %s\ndump\n' "$work/short" | play
+    edit err 's/^\(hawsermole: line 2: \)..*\(: it has \)/\1FILE\2/'
+    outcome "load of another length"
+    echo 'setup 0' | want 2 "hawsermole: line 2: /no/where: REASON"
+    printf 'setup 1 0\nsave /no/where\n' | play
+    edit err 's|^\(hawsermole: line 2: /no/where: \)..*|\1REASON|'
+    outcome "save to nowhere"
+}
+
+# A script is a test: status 1 where a line that expects isn't met, or none expects.
+checks() {
+    checked=$here/checked
+    want 0 <"$checked.expected"
+    play --check "$checked.script" </dev/null
+    outcome "a script that is a test"
+    printf 'setup 0\n5  none\n' | want 1 "hawsermole: line 4: expected '0 ..', printed '5 none'" \
+        "hawsermole: 1 of 2 lines that expect aren't met"
+    printf 'setup 1 0\nexpect setup 0\nLoadDone 1\nexpect 0 ..\n' | play --check
+    outcome "a test that fails"
+    echo 'setup 0' | want 1 "hawsermole: no line expects anything"
+    echo 'setup 1 0' | play --check
+    outcome "a test that expects nothing"
 }
 
 # Nobody reads after the first line: the run ends quietly, long before the end of its script. A full disk is told.
@@ -197,7 +273,11 @@ held_open() {
 for folder in examples tests/cli tests/scenarios; do scripts "$root/$folder"; done
 ways_in
 odd_bytes
+long_words
 unreadable
+slips
+files
+checks
 wrong_calls
 prints
 lost_output
