@@ -125,7 +125,7 @@ causes! {
     InAccess Conditions "the carrier is IN ACCESS"
         "AccessEnd comes first"
     NotInBuffer Conditions "the carrier isn't in the buffer"
-        "CarrierOut is for what is inside; at a port Close or CancelCarrier lets it go"
+        "CarrierOut is for what is inside; what is at a port leaves from there"
     IsOpen Conditions "the carrier is open"
         "Close comes first"
     AtNoPort Conditions "the carrier is at no port"

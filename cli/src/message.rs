@@ -1,6 +1,7 @@
 //! What a message says and why it was refused: indented lines below the `secs` line.
 use crate::items::{format, head, items, Item, ASCII, LIST, U1};
 use crate::script::Sent;
+use crate::values::cut;
 use hawsermole::{secs_at, Argument, Refusal, Row, ROWS, SECS_DEPTH, SECS_ITEMS, SLOTS};
 
 const PARTS: [&str; 5] = ["data id", "action", "carrier name", "port", "attributes"];
@@ -9,7 +10,8 @@ const ACTIONS: [&str; 4] = ["Bind", "CarrierNotification", "ProceedWithCarrier",
 /// The tree of items with the byte at which each begins, and for a refusal of the reader the byte where it was met.
 pub fn read(message: &[u8], count: u32, refusal: Option<Refusal>) -> String {
     let read = items(message, count);
-    let tree = |item: &Item| format!("  {:>5}  {}{item}\n", item.at, "  ".repeat(item.depth));
+    let tree =
+        |item: &Item| format!("  {:>5}  {}{}\n", item.at, "  ".repeat(item.depth), cut(&item.to_string()));
     let mut lines: String = read.iter().map(tree).collect();
     if let Some(refusal) = refusal {
         let (at, why) = met(message, &read, refusal);
@@ -135,6 +137,12 @@ mod tests {
                     \x20    18    L,1\n     20      L,2\n     22        A \"Lot\"\n     27        L,1\n\
                     \x20    29          B 01\n";
         assert_eq!(read(&message, 10, None), tree);
+    }
+
+    #[test]
+    fn long_items_are_told_in_part() {
+        let text = [&[0x43, 0x2D, 0xC6, 0xC0], &[b'A'; 3_000_000][..]].concat();
+        assert_eq!(read(&text, 1, None), format!("      0  A \"{}..\n", "A".repeat(177)));
     }
 
     #[test]

@@ -53,7 +53,7 @@ pub fn missing(what: &str, usage: &str) -> String {
 
 /// The most characters of a word that a message shows.
 const SHOWN: usize = 60;
-/// The most characters of an input that an explanation shows: the longest row with a name of 32 bytes has fewer.
+/// The most characters of an input or an item that an explanation shows: a row with a name of 32 bytes has fewer.
 const TOLD: usize = 180;
 
 /// A word as it can be shown in a message: the beginning of a long one, and how long it is.
@@ -65,7 +65,7 @@ pub fn shown(word: &[u8]) -> String {
     }
 }
 
-/// An input as it is told: the beginning of a long one. All of it is ASCII.
+/// An input or an item as it is told: the beginning of a long one. All of it is ASCII.
 pub fn cut(input: &str) -> String {
     match input.get(..TOLD) {
         Some(beginning) if input.len() > TOLD => format!("{beginning}.."),
