@@ -48,10 +48,12 @@ run: target/hawsermole
 independent:
 	cd independent && cargo test --offline --quiet
 
-# clippy knows since when Rust has each function that the crate calls, and holds it to its rust-version.
-rust: library cross
+# clippy knows since when Rust has each function that the crate calls, and holds it to its rust-version; it is of this
+# machine's own processor.
+rust: library cross $(NATIVE)/libhawsermole.a
 	cd rust && $(CARGO) test --offline --quiet
-	if cargo clippy --version > /dev/null 2>&1; then cd rust && cargo clippy --offline --quiet --locked -- -D warnings; \
+	if cargo clippy --version > /dev/null 2>&1; then cd rust && \
+	HAWSERMOLE_LIB_DIR=$(abspath $(NATIVE)) cargo clippy --offline --quiet --locked -- -D warnings; \
 	else echo "rust: no clippy here, so that nothing holds the crate to its rust-version"; fi
 	cd cli && $(CARGO) test --offline --quiet
 
