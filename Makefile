@@ -26,8 +26,12 @@ library:
 
 $(ARCHIVE): library ;
 
-target/native/libhawsermole.a: library
-	tools/native.sh target/native
+# The module that the archive is compiled from, for other processors.
+target/module/hawsermole.bc: library
+	tools/module.sh $@
+
+target/native/libhawsermole.a: target/module/hawsermole.bc
+	tools/native.sh $< target/native
 
 target/hawsermole: library cross
 	@echo "command line: compiling target/hawsermole"
