@@ -254,23 +254,13 @@ static void set_up(hm_tool *tool)
     }
 }
 
-/* A copy with some bytes changed, or with nothing but any bytes, gets a few inputs of its own. */
+/* A damaged copy gets a few inputs of its own. */
 static void damaged(const hm_tool *sound)
 {
     hm_tool tool = *sound;
-    uint32_t changes = 1 + below(3), inputs_left = 1 + below(4);
+    uint32_t inputs_left = 1 + below(4);
 
-    if (below(8) == 0) {
-        any_bytes((uint8_t *)&tool, sizeof tool);
-    } else if (below(8) == 0) {
-        memset(&tool, (int)below(256), sizeof tool);
-    }
-    while (changes-- > 0) {
-        uint32_t part = below(4);
-        uint32_t where = part < 2 ? below(sizeof tool) : below(300);
-        where += part == 3 ? (uint32_t)offsetof(hm_tool, expected_maps) : 0;
-        ((uint8_t *)&tool)[where] = (uint8_t)(below(2) ? draw() : below(6));
-    }
+    damage(&tool);
     damaged_tools++;
     while (inputs_left-- > 0 && at < inputs) {
         at++;

@@ -1,4 +1,7 @@
-/* Inputs by chance, the same for the same seed: most fit the tool that they are given to, some are odd. */
+/*
+ * Inputs by chance, the same for the same seed: most fit the tool that they are given to, some are odd. No expression
+ * draws twice without saying in which order, so that every compiler draws the same.
+ */
 #ifndef CHANCE_H
 #define CHANCE_H
 
@@ -47,8 +50,9 @@ static void odd_name(struct input *in)
 {
     static const uint32_t lengths[] = {0, 1, 15, 16, 17, 255, 256, 257, 272, LONGEST};
     if (below(3) == 0) {
+        uint8_t bad = (uint8_t)(below(2) ? draw() : below(HM_NAME_BYTE_LEAST));
         some_name(in);
-        in->name[below(in->name_length)] = (uint8_t)(below(2) ? draw() : below(HM_NAME_BYTE_LEAST));
+        in->name[below(in->name_length)] = bad;
         return;
     }
     in->name_length = below(2) ? lengths[below(sizeof lengths / sizeof lengths[0])] : below(LONGEST + 1);
@@ -96,8 +100,9 @@ static void codes_as_expected(struct input *in, const hm_tool *tool)
     memcpy(padded, in->name, in->name_length < HM_NAME_BYTES ? in->name_length : HM_NAME_BYTES);
     for (i = 0; i < HM_RECORDS; i++) {
         if (memcmp(tool->carriers[i].name, padded, HM_NAME_BYTES) == 0 && tool->expected_maps[i][0] != 0) {
+            uint8_t change = below(3) ? 0 : HM_CODE_EMPTY ^ HM_CODE_CORRECTLY_OCCUPIED;
             memcpy(in->codes, tool->expected_maps[i], HM_SLOTS);
-            in->codes[below(HM_SLOTS)] ^= below(3) ? 0 : HM_CODE_EMPTY ^ HM_CODE_CORRECTLY_OCCUPIED;
+            in->codes[below(HM_SLOTS)] ^= change;
             return;
         }
     }
@@ -220,6 +225,24 @@ static void next_input(struct input *in, const hm_tool *tool)
     }
     if (below(4) == 0) {
         pad(in);
+    }
+}
+
+/* Some bytes of the tool are changed, or it holds nothing but any bytes. */
+static inline void damage(hm_tool *tool)
+{
+    uint32_t changes = 1 + below(3);
+
+    if (below(8) == 0) {
+        any_bytes((uint8_t *)tool, sizeof *tool);
+    } else if (below(8) == 0) {
+        memset(tool, (int)below(256), sizeof *tool);
+    }
+    while (changes-- > 0) {
+        uint32_t part = below(4);
+        uint32_t where = part < 2 ? below(sizeof *tool) : below(300);
+        where += part == 3 ? (uint32_t)offsetof(hm_tool, expected_maps) : 0;
+        ((uint8_t *)tool)[where] = (uint8_t)(below(2) ? draw() : below(6));
     }
 }
 

@@ -6,7 +6,9 @@
 
 #include "hawsermole.h"
 
+#ifndef LONGEST_MESSAGE
 #define LONGEST_MESSAGE 3000
+#endif
 
 /* Format codes of SEMI E5, in octal as there. */
 enum { LIST = 000, ASCII = 020, JIS8 = 021, U1 = 051 };

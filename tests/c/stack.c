@@ -11,6 +11,7 @@
 #include <ucontext.h>
 
 #include "chance.h"
+#include "full.h"
 #include "secs.h"
 
 #define STACK_BYTES (256u * 1024u)
@@ -31,9 +32,7 @@ static struct painted for_secs_step = {"hm_secs_step", NULL, NULL};
 static struct painted for_secs_at = {"hm_secs_at", NULL, NULL};
 
 static ucontext_t here, there;
-static hm_tool tool;
 static hm_reports reports;
-static struct input in;
 static struct message message;
 static uint32_t answer, items;
 static unsigned long accepted, refused, removed, removed_from_full, most_records, at_once, bridged, unread;
@@ -174,69 +173,12 @@ static void secs_step(void)
     }
 }
 
-static void plain_step(uint32_t number, uint32_t port, uint32_t value, uint32_t letter)
-{
-    in.number = number;
-    in.port = port;
-    in.value = value;
-    in.name_length = HM_NAME_BYTES;
-    memset(in.name, 'N', HM_NAME_BYTES);
-    in.name[HM_NAME_BYTES - 1] = (uint8_t)('0' + letter); /* differs in the last byte alone: the longest to compare */
-    fitting_codes(&in, &tool);
-    step();
-}
-
-static void load(uint32_t port, uint32_t letter)
-{
-    plain_step(HM_INPUT_LOAD_START, port, 0, 0);
-    plain_step(HM_INPUT_LOAD_DONE, port, 0, 0);
-    plain_step(HM_INPUT_ID_READ, port, 0, letter);
-    plain_step(HM_INPUT_PROCEED_WITH_CARRIER, 0, 0, letter);
-}
-
-/* 16 carriers in the buffer, 4 at the ports, 16 expected. */
-static void fill(void)
-{
-    uint32_t i;
-    set_up(HM_PORTS, HM_PLACES);
-    for (i = 0; i < HM_PLACES; i++) {
-        load(1 + i % HM_PORTS, i);
-        plain_step(HM_INPUT_MOVE_IN, 1 + i % HM_PORTS, i + 1, 0);
-    }
-    for (i = 0; i < HM_PORTS; i++) {
-        load(i + 1, HM_PLACES + i);
-    }
-    for (i = 0; i < HM_EXPECTED; i++) {
-        plain_step(HM_INPUT_CARRIER_NOTIFICATION, 0, 0, HM_PLACES + HM_PORTS + i);
-    }
-}
-
-/* Every row with every name, known and not, and every port, to a full tool. */
-static void every_row_to_a_full_tool(void)
-{
-    hm_tool full;
-    uint32_t number, port, letter;
-
-    fill();
-    full = tool;
-    for (number = 1; number <= HM_INPUTS; number++) {
-        for (letter = 0; letter <= HM_RECORDS; letter++) {
-            for (port = 0; port <= HM_PORTS; port++) {
-                tool = full;
-                plain_step(number, port, 1, letter);
-            }
-        }
-    }
-    tool = full;
-}
-
 /* Runs by chance from a full tool and from set-up, now and then with a damaged byte. */
-static void by_chance(unsigned long inputs)
+static void by_chance(const hm_tool *full, unsigned long inputs)
 {
-    hm_tool full = tool;
     while (inputs-- > 0) {
         if (below(100) == 0) {
-            tool = full;
+            tool = *full;
         } else if (below(300) == 0) {
             set_up(1 + below(HM_PORTS + 1), below(HM_PLACES + 2));
         } else if (below(300) == 0) {
@@ -264,6 +206,7 @@ static int figure(const struct painted *p)
 
 int main(int argc, char **argv)
 {
+    static hm_tool full;
     int failed = 0;
 
     prepare(&for_step);
@@ -274,8 +217,8 @@ int main(int argc, char **argv)
     prepare(&for_secs_step);
     prepare(&for_secs_at);
     chance_state = 1;
-    every_row_to_a_full_tool();
-    by_chance(argc > 1 ? strtoul(argv[1], NULL, 10) : 50000);
+    every_row_to_a_full_tool(&full);
+    by_chance(&full, argc > 1 ? strtoul(argv[1], NULL, 10) : 50000);
     failed += figure(&for_step);
     failed += figure(&for_setup);
     failed += figure(&for_sound);
