@@ -1,6 +1,7 @@
 # Two commands: `make run` plays document 01's run to check by hand, explained; `make test` is the gate.
 #   make                builds the command line, target/hawsermole
 #   make bench          measures the figures of docs/FIGURES.md
+#   make board          the archives for boards in target/board, tried under emulators; see board/board.mk
 #   make compare N=..   compares the proved machine with the independent program on more inputs
 #   make diagrams       draws docs/diagrams again, from what the machine does, and what is made from docs/events.tsv
 #   make oldest         tests the Rust crate with the oldest Rust that it is for (fetches it from Debian's archive)
@@ -95,9 +96,10 @@ manual:
 	diagrams/print.sh
 
 include tests/c/c.mk
+include board/board.mk
 
 # All that links the archive or reads beside it; `test` is this after the proofs.
-users: independent rust cli scenarios pictures c sanitize compare
+users: independent rust cli scenarios pictures c sanitize board compare
 
 test:
 	tools/gate.sh

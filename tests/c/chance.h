@@ -170,7 +170,7 @@ static uint32_t number_for_port(const hm_port *port)
 static uint32_t number_for_carrier(const hm_carrier *carrier)
 {
     if (carrier->place == HM_PLACE_EXPECTED) {
-        return filling || below(3) ? HM_INPUT_ID_READ : HM_INPUT_CANCEL_BIND + 2 * below(2);
+        return filling || below(3) ? 0u + HM_INPUT_ID_READ : HM_INPUT_CANCEL_BIND + 2 * below(2);
     }
     if (carrier->id == HM_STATUS_WAITING_FOR_HOST || carrier->slot == HM_STATUS_WAITING_FOR_HOST) {
         return filling || below(6) ? HM_INPUT_PROCEED_WITH_CARRIER : HM_INPUT_CANCEL_CARRIER;

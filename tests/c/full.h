@@ -1,14 +1,11 @@
 /*
- * A full tool, and every row to it: what costs the most. Whoever includes this says what it is to give the tool the
- * input `in`, and to set it up.
+ * A full tool, and every row to it: what costs the most. Whoever includes this has a `tool` and an input `in` above,
+ * and says what it is to give the one to the other and to set the tool up.
  */
 #ifndef FULL_H
 #define FULL_H
 
 #include "chance.h"
-
-static hm_tool tool;
-static struct input in;
 
 static void step(void);
 static void set_up(uint32_t ports, uint32_t places);

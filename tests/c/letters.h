@@ -45,6 +45,19 @@ static void put_value(struct message *m, uint32_t nested)
     }
 }
 
+#define MANY 150
+
+/* A list of numbers, with which the message may have more items than are read. */
+static void put_many(struct message *m)
+{
+    uint32_t elements = below(MANY);
+
+    put_head(m, LIST, elements);
+    while (elements-- > 0) {
+        put_u1(m, (uint8_t)elements);
+    }
+}
+
 /* The input as a message, whatever its number. */
 static void put_input(struct message *m, const struct input *in)
 {
@@ -64,7 +77,11 @@ static void put_input(struct message *m, const struct input *in)
         }
         put_head(m, LIST, 2);
         put_text(m, below(8) ? "Usage" : "SlotMap");
-        put_value(m, 1);
+        if (m->length < LONGEST_MESSAGE - 3 * MANY - ROOM_FOR_VALUE && below(30) == 0) {
+            put_many(m);
+        } else {
+            put_value(m, 1);
+        }
     }
 }
 
@@ -95,7 +112,7 @@ static void next_message(struct message *m, const struct input *in)
 }
 
 /* As many items as may be, and as many of them at the greatest depth, each with three length bytes: what costs most. */
-static void put_costly(struct message *m, const char *action, const uint8_t *name, uint32_t length)
+static inline void put_costly(struct message *m, const char *action, const uint8_t *name, uint32_t length)
 {
     static const uint8_t lists[] = {0x03, 0, 0, 1, 0x03, 0, 0, 1, 0x03, 0, 0, 117}, number[] = {0xA7, 0, 0, 1, 1};
     unsigned i;

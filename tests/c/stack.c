@@ -11,7 +11,6 @@
 #include <ucontext.h>
 
 #include "chance.h"
-#include "full.h"
 #include "secs.h"
 
 #define STACK_BYTES (256u * 1024u)
@@ -32,10 +31,14 @@ static struct painted for_secs_step = {"hm_secs_step", NULL, NULL};
 static struct painted for_secs_at = {"hm_secs_at", NULL, NULL};
 
 static ucontext_t here, there;
+static hm_tool tool;
 static hm_reports reports;
+static struct input in;
 static struct message message;
 static uint32_t answer, items;
 static unsigned long accepted, refused, removed, removed_from_full, most_records, at_once, bridged, unread;
+
+#include "full.h"
 
 static uint64_t paint(size_t i)
 {

@@ -1,0 +1,215 @@
+/*
+ * Lengths are 64 bits in the proved functions, and a caller on a board has them in 32: each function is called with
+ * lengths of every narrow type, with garbage in the registers around, and with everything it is lent at addresses of
+ * every alignment. C99 and C++17.
+ *
+ * HALF shows that this can fail: 1 and 2 are callers that would pass 32 bits, which no compiler takes with the
+ * warnings on; 1 is then compiled without them, and has to be noticed when it runs. So has an access of its own that
+ * isn't aligned.
+ */
+#define LONGEST_MESSAGE 900
+
+#include "letters.h"
+#include "line.h"
+
+#ifndef HALF
+#define HALF 0
+#endif
+
+#if HALF == 2
+uint32_t hm_name(const uint8_t *text, size_t length); /* right for x86-64, where size_t has 64 bits */
+#endif
+
+static uint32_t checks, failures;
+static struct input in;
+static struct message sent;
+
+static void check(int holds, const char *what)
+{
+    checks++;
+    if (!holds) {
+        failures++;
+        say("not so: ");
+        say(what);
+        say("\n");
+    }
+}
+
+/* Leaves ones in every register in which an argument may travel, but for the first. */
+static __attribute__((noinline)) void garbage(void)
+{
+#if defined(__arm__)
+    __asm__ volatile("mvn r1, %0\nmvn r2, %0\nmvn r3, %0" : : "r"(0) : "r1", "r2", "r3", "cc");
+#elif defined(__riscv)
+    __asm__ volatile("li a1, -1\nli a2, -1\nli a3, -1\nli a4, -1\nli a5, -1\nli a6, -1\nli a7, -1" : : :
+                     "a1", "a2", "a3", "a4", "a5", "a6", "a7");
+#endif
+}
+
+static __attribute__((noinline)) uint32_t name_of(const uint8_t *text, uint32_t length)
+{
+#if HALF == 1
+    uint32_t (*volatile half)(const uint8_t *, uint32_t) = (uint32_t (*)(const uint8_t *, uint32_t))hm_name;
+    garbage();
+    return half(text, length);
+#else
+    garbage();
+    return hm_name(text, length);
+#endif
+}
+
+/* So many letters and so many blanks. */
+static void names(void)
+{
+    uint8_t text[HM_TEXT_BYTES + 4];
+    uint32_t letters, length;
+
+    for (letters = 0; letters <= sizeof text; letters++) {
+        for (length = letters; length <= sizeof text; length++) {
+            uint32_t named = letters >= 1 && letters <= HM_NAME_BYTES && length <= HM_TEXT_BYTES ? letters : 0;
+            uint16_t narrow = (uint16_t)length;
+            memset(text, 'A', letters);
+            memset(text + letters, HM_BLANK, sizeof text - letters);
+            check(name_of(text, length) == named, "a name is as long as it is");
+            check(hm_name(text, narrow) == named, "a name is as long as it is, by 16 bits");
+        }
+    }
+}
+
+static void waiting_tables(hm_carrier *carriers)
+{
+    uint8_t count, first;
+    hm_found found;
+
+    for (count = 0; count <= HM_RECORDS; count++) {
+        for (first = 0; first <= count; first++) {
+            uint32_t waits = first < count, answer;
+            memset(carriers, 0, HM_RECORDS * sizeof *carriers);
+            if (waits) {
+                carriers[first].slot = HM_STATUS_WAITING_FOR_HOST;
+            }
+            memset(&found, 0xA5, sizeof found);
+            garbage();
+            answer = hm_waiting(carriers, count, &found);
+            check(answer == waits && found.position == first && found.read == first + waits, "the first that waits");
+        }
+    }
+}
+
+/* A list of numbers, cut everywhere: reading stops where the number begins that isn't whole. */
+static void cut_messages(hm_tool *tool, hm_reports *reports)
+{
+    uint16_t length;
+    uint32_t answer, items, whole;
+
+    sent.length = sent.items = 0;
+    put_head(&sent, LIST, 100);
+    while (sent.items < 101) {
+        put_u1(&sent, 3);
+    }
+    for (length = 0; length <= sent.length; length++) {
+        whole = length < 2 ? 0 : (length - 2u) / 3;
+        items = 0xA5A5A5A5u;
+        garbage();
+        check(hm_secs_at(sent.bytes, length) == (length < 2 ? 0 : 2 + 3 * (uint64_t)whole), "where reading stopped");
+        garbage();
+        answer = hm_secs_step(tool, reports, sent.bytes, length, &items);
+        check(answer == (whole == 100 ? HM_REFUSED_SHAPE_OR_ACTION : HM_REFUSED_CUT_SHORT), "cut short, or whole");
+        check(items == (length < 2 ? 0 : 1 + whole), "as many items as are whole");
+    }
+}
+
+/* Every length of a name, and of codes around the right ones. */
+static void inputs_of_every_length(hm_tool *tool, hm_reports *reports)
+{
+    static const uint8_t name[HM_NAME_BYTES + 1] = {'A', 'B', 'C', 'D', 'E', 'F', 'G', 'H', 'I',
+                                                    'J', 'K', 'L', 'M', 'N', 'O', 'P', 'Q'};
+    static uint8_t codes[HM_SLOTS + 2];
+    uint8_t bytes, count;
+
+    memset(codes, HM_CODE_EMPTY, sizeof codes);
+    for (bytes = 0; bytes <= sizeof name; bytes++) {
+        for (count = 0; count <= sizeof codes; count++) {
+            int good = bytes >= 1 && bytes <= HM_NAME_BYTES && (count == 0 || count == HM_SLOTS);
+            uint32_t answer;
+            check(hm_setup(tool, 1, 0) == HM_ACCEPTED, "set up");
+            garbage();
+            answer = hm_step(tool, reports, HM_INPUT_CARRIER_NOTIFICATION, 1, 0, name, bytes, codes, count);
+            check(answer == (good ? 0u : 1u), "a name and codes of the right length, and no other");
+            check(tool->count == (good ? 1 : 0) && reports->count == (good ? 3 : 0), "a record and three reports");
+            check(!good || (memcmp(tool->carriers[0].name, name, bytes) == 0), "the name as it was given");
+        }
+    }
+}
+
+/* What a call is lent, at any distance from a multiple of eight. */
+#define APART __attribute__((aligned(8)))
+
+static uint8_t tool_room[sizeof(hm_tool) + 3] APART, reports_room[sizeof(hm_reports) + 3] APART;
+static uint8_t name_room[LONGEST + 3] APART, codes_room[LONGEST + 3] APART, message_room[LONGEST_MESSAGE + 3] APART;
+
+/* The same input and the same message to the tool and to a copy at this distance. */
+static void at_distance(uint32_t distance, hm_tool *tool, hm_reports *reports)
+{
+    hm_tool *odd_tool = (hm_tool *)(void *)(tool_room + distance);
+    hm_reports *odd_reports = (hm_reports *)(void *)(reports_room + distance);
+    const uint8_t *name = name_room + distance, *codes = codes_room + distance;
+    uint32_t answer, items, odd_items;
+
+    memcpy(odd_tool, tool, sizeof *tool);
+    memcpy(name_room + distance, in.name, in.name_length);
+    memcpy(codes_room + distance, in.codes, in.codes_length);
+    memcpy(message_room + distance, sent.bytes, sent.length);
+    answer = hm_step(tool, reports, in.number, in.port, in.value, in.name, in.name_length, in.codes, in.codes_length);
+    check(answer == hm_step(odd_tool, odd_reports, in.number, in.port, in.value, name, in.name_length, codes,
+                            in.codes_length), "the same answer at every alignment");
+    check(memcmp(odd_reports, reports, sizeof *reports) == 0, "the same reports at every alignment");
+    answer = hm_secs_step(tool, reports, sent.bytes, sent.length, &items);
+    check(answer == hm_secs_step(odd_tool, odd_reports, message_room + distance, sent.length, &odd_items),
+          "the same answer to a message at every alignment");
+    check(memcmp(odd_reports, reports, sizeof *reports) == 0, "the same reports of a message at every alignment");
+    check(memcmp(odd_tool, tool, sizeof *tool) == 0 && items == odd_items, "the same tool at every alignment");
+}
+
+static void every_alignment(hm_tool *tool, hm_reports *reports)
+{
+    uint32_t k;
+    check(hm_setup(tool, HM_PORTS, HM_PLACES) == HM_ACCEPTED, "set up");
+    for (k = 0; k < 1200; k++) {
+        next_input(&in, tool);
+        next_message(&sent, &in);
+        at_distance(k % 4, tool, reports);
+    }
+}
+
+#if HALF == 1
+static __attribute__((noinline)) void word_at(void *odd)
+{
+    void *volatile hidden = odd;
+    (void)*(volatile uint32_t *)hidden;
+}
+#endif
+
+int main(void)
+{
+    static hm_tool tool;
+    static hm_reports reports;
+
+    chance_state = 1;
+    names();
+    waiting_tables(tool.carriers);
+    inputs_of_every_length(&tool, &reports);
+    cut_messages(&tool, &reports);
+    check(hm_tool_size() == sizeof tool && hm_reports_size() == sizeof reports, "sizes");
+    every_alignment(&tool, &reports);
+#if HALF == 1
+    word_at(tool_room + 1);
+#endif
+    put_words("abi: ");
+    put_number(checks);
+    put_words(" checks, ");
+    put_number(failures);
+    put_words(" failed");
+    end_line();
+    return failures != 0 || checks == 0;
+}
