@@ -197,7 +197,7 @@ static void next_tool(void)
         left = 2 + below(4);
         damaged_tools++;
         damage(&tool);
-    } else if (set_ups == 1 || below(tool.used == 0 ? 10 : 500) == 0) {
+    } else if (below(tool.used == 0 ? 10 : 500) == 0) {
         uint32_t wanted = below(16) ? 1 + below(HM_PORTS) : odd_number();
         set_up(wanted, below(16) ? below(HM_PLACES + 1) : odd_number());
     }
@@ -287,7 +287,7 @@ int main(void)
     uint32_t end, last;
 
     chance_state = 1;
-    every_row_to_a_full_tool(&kept);
+    every_row_to_full_tools(&kept);
     costly_messages();
     print_digests();
     paint_every = 8;

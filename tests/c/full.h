@@ -47,22 +47,43 @@ static void fill(void)
     }
 }
 
-/* Every row with every name, known and not, and every port, to the full tool, which is kept in `full`. */
-static void every_row_to_a_full_tool(hm_tool *full)
+/* From the full tool: at the last port stands a pod that is bound and not yet read, so that any row may be accepted. */
+static void free_one(void)
+{
+    plain_step(HM_INPUT_CANCEL_CARRIER, 0, 0, HM_PLACES + HM_PORTS - 1);
+    plain_step(HM_INPUT_UNLOAD_START, HM_PORTS, 0, 0);
+    plain_step(HM_INPUT_UNLOAD_DONE, HM_PORTS, 0, 0);
+    plain_step(HM_INPUT_CANCEL_CARRIER_NOTIFICATION, 0, 0, HM_RECORDS - 1);
+    plain_step(HM_INPUT_BIND, HM_PORTS, 0, HM_RECORDS);
+    plain_step(HM_INPUT_LOAD_START, HM_PORTS, 0, 0);
+    plain_step(HM_INPUT_LOAD_DONE, HM_PORTS, 0, 0);
+}
+
+/* Every row with every name, known and not, and every port, to this tool, which is kept in `kept_tool`. */
+static void every_row(hm_tool *kept_tool)
 {
     uint32_t number, port, letter;
 
-    fill();
-    *full = tool;
+    *kept_tool = tool;
     for (number = 1; number <= HM_INPUTS; number++) {
-        for (letter = 0; letter <= HM_RECORDS; letter++) {
+        for (letter = 0; letter <= HM_RECORDS + 1; letter++) {
             for (port = 0; port <= HM_PORTS; port++) {
-                tool = *full;
+                tool = *kept_tool;
                 plain_step(number, port, 1, letter);
             }
         }
     }
-    tool = *full;
+    tool = *kept_tool;
+}
+
+/* The last of the two is the full one. */
+static void every_row_to_full_tools(hm_tool *kept_tool)
+{
+    fill();
+    free_one();
+    every_row(kept_tool);
+    fill();
+    every_row(kept_tool);
 }
 
 #endif

@@ -220,7 +220,7 @@ int main(int argc, char **argv)
     prepare(&for_secs_step);
     prepare(&for_secs_at);
     chance_state = 1;
-    every_row_to_a_full_tool(&full);
+    every_row_to_full_tools(&full);
     by_chance(&full, argc > 1 ? strtoul(argv[1], NULL, 10) : 50000);
     failed += figure(&for_step);
     failed += figure(&for_setup);
