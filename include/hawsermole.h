@@ -30,8 +30,11 @@
  *   once: another may be opened, its port is READY TO UNLOAD. Shut the pod first (ask a copy of the tool before that);
  *   docs/MANUAL.md, "Where the record is ahead", has every such input.
  * - HM_STACK_BYTES of stack are free for each call.
- * - The program is for the archive's target: x86-64 Linux, System V ABI. The archive is position independent,
- *   uses no heap and no file, and needs from the C library memcpy, memset and memcmp at most.
+ * - The program is for the archive's target: x86-64 Linux, System V ABI, or one of the boards that `make board` names.
+ *   An archive uses no heap and no file, and needs from the C library memcpy, memset and memcmp at most; on a board,
+ *   the compiler's own runtime too, libgcc. That for x86-64 is position independent.
+ * - The functions are declared by this file alone. Lengths are 64 bits on every machine: a size_t of 32 is widened at
+ *   the call, but a declaration of one's own with size_t would pass half of one.
  */
 #ifndef HAWSERMOLE_H
 #define HAWSERMOLE_H
@@ -66,7 +69,7 @@ extern "C" {
 #define HM_TOOL_BYTES 3782
 #define HM_REPORTS_BYTES 141
 
-/* Stack that one call may need, with room to spare; tests/c/stack.c measures it. */
+/* Stack that one call may need, with room to spare; tests/c/stack.c measures it, and on boards `make board`. */
 #define HM_STACK_BYTES 4096
 
 /* Port 0 means "not given", in the inputs whose port may be left out (2, 5 and 6). */
