@@ -37,7 +37,7 @@ void qemu_plugin_outs(const char *text);
 #define EXPORT __attribute__((visibility("default")))
 EXPORT int qemu_plugin_version = 1;
 
-#define MOST_FUNCTIONS 8
+#define MOST_FUNCTIONS 32
 
 static const char caller_of[] = "caller_of_";
 static struct function {

@@ -73,6 +73,7 @@ try_archive() {
     "${compiler}size" -A "$archive" | awk '$1 ~ /^\.text/ { code += $2 } $1 ~ /^\.rodata/ { tables += $2 }
         END { print "  archive: code " code " bytes, read-only tables " tables + 0 " bytes, no writable data" }'
     echo "  needs: $(symbols -u)"
+    echo "  link: ${compiler}gcc $for_firmware .. libhawsermole.a -lc -lgcc"
 }
 
 try_abi() {
@@ -149,7 +150,8 @@ try_broken() {
 try_instructions() {
     play counted -DINPUTS=10000u
     functions=$(symbols -g --defined-only | tr ' ' '\n' | grep -v '_size$' | sed 's/^/function=/' | paste -sd, -)
-    run counted -plugin "$plugins/count.so,$functions" -d plugin -D "$dir/counts" || fail "$1" "the counted firmware failed"
+    run counted -plugin "$plugins/count.so,$functions" -d plugin -D "$dir/counts" ||
+        fail "$1" "the counted firmware failed"
     awk -v swept="$swept" '
         { calls[$1]++ }
         $1 != "hm_step" || calls[$1] > swept { sum[$1] += $2; summed[$1]++ }
