@@ -53,7 +53,7 @@ pub fn misfit(archive: &[u8], target: &str) -> Option<String> {
             "it is for {of}, and this program for {target}\n\
              `make` at the root of the repository builds and runs programs for x86-64 on other machines, too \
              (`make run`, `make cli`);\n\
-             for an archive of this machine's own, to try things out, call `tools/native.sh target/native` there \
+             for an archive of this machine's own, to try things out, call `make target/native/libhawsermole.a` there \
              and name its folder in HAWSERMOLE_LIB_DIR"
         )
     })

@@ -8,6 +8,8 @@ root=$(cd "$(dirname "$0")/.." && pwd)
 archive=$root/target/staticlib/libhawsermole.a
 [ -e "$archive" ] || { echo "module.sh: no archive yet: make library" >&2; exit 2; }
 mkdir -p "$(dirname "$1")"
+module=$(cd "$(dirname "$1")" && pwd)/$(basename "$1")
+cd "$root" # `rt` finds the crates from here
 machine=$(uname -m)
 kit=$(dirname "$(dirname "$(readlink -f "$(command -v rt)")")")
 # The kit by links, but for that clang.
@@ -35,5 +37,5 @@ link_all "$kit" "$links"
 cp "$archive" "$links/before.a"
 RATTLE_HOME=$links rt staticlib hawsermole >"$links/log" 2>&1 || { cat "$links/log" >&2; exit 1; }
 cmp "$links/before.a" "$archive" || { echo "module.sh: the module isn't the archive's" >&2; exit 1; }
-cp "$links/module.bc" "$1"
-chmod 644 "$1"
+cp "$links/module.bc" "$module"
+chmod 644 "$module"
