@@ -1,1 +1,3 @@
 pub mod Handed
+pub mod Refuses
+pub mod Exchanged

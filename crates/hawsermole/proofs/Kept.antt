@@ -2,11 +2,12 @@
 use Prim.Native.Nat.{ℕ, _+_, _≤_}
 use native.Mathlib.Omega.{arith}
 use mathlib.Core.Path.{_≡_, refl, ap, sym, subst, _∙_}
+use mathlib.Core.Logic.{_≢_}
 use mathlib.Core.Bool.{Bool, true, false, cond, _&&_}
 use mathlib.Core.List.{List, [], _∷_, _++_, map}
 use lib.ListN.{length}
 use lib.Dec.{eqb, leb}
-use borrow.Author.Tests.{eqb-true, leb-true}
+use borrow.Author.Tests.{eqb-true, eqb-false, leb-true}
 use Rattle.lists.specs.Lists.{between}
 use Rattle.lists.proofs.Bools.{and-l, and-r}
 use Rattle.rules.specs.declared.tool.Setup.{Setup}
@@ -27,7 +28,24 @@ use Rattle.tool.proofs.Runs.{tool-sound, tool-holds}
 use Rattle.door.specs.Door.{shown, outcome}
 use Rattle.secs.specs.Request.{requestIn}
 use Rattle.bridge.specs.Bridge.{bridged}
-use Rattle.hawsermole.specs.Calls.{Sent, typed, text, Call, Made, Left, stateIn, taken, eventsOf, happened, Kept}
+use Rattle.bridge.proofs.Exchanged.{exchange-refuses, not-fourteen}
+use Rattle.hawsermole.specs.Calls.{
+  SecsCall,
+  ExchangeCall,
+  Sent,
+  typed,
+  text,
+  lent,
+  Call,
+  Made,
+  Left,
+  stateIn,
+  read,
+  taken,
+  eventsOf,
+  happened,
+  Kept,
+}
 
 -- an accepted set-up is one of 1 to 4 ports and 0 to 16 places
 module _ (P B : ℕ) where
@@ -60,15 +78,36 @@ answer-is t i h = ap (λ o. o .answer) (sym (when-sound t i h)) ∙ given-answer
 -- as the rows saw them
 unfoldable inputs : List Call → List Input
 inputs [] = []
-inputs (c ∷ earlier) = taken (c .sent) ++ inputs earlier
+inputs (c ∷ earlier) = taken (c .sent) (c .answer) ++ inputs earlier
+
+fourteen-not-0 : _≢_ {A = ℕ} 14 0
+fourteen-not-0 e = omega arith
 
 -- ── What a call makes of the tool, by the inputs that rows saw: one or none ──
 module _ (before : List (List ℕ)) (answer : ℕ) (after : List (List ℕ)) (reports : List ℕ) where
-  tool-after : (sent : Sent) → Made before sent answer after reports → (earlier : List Input) (t : Whole)
-      → wholeIn before ≡ reachedWhole t earlier → wholeIn after ≡ reachedWhole t (taken sent ++ earlier)
-  unfolding taken outcome reachedWhole bridged
-  tool-after (typed i) k earlier t e = k .tool ∙ ap (λ t. tool.outcome t (shown i) .tool) e
-  tool-after (text m items) k earlier t e = go (eqb (requestIn m .refusal) 0) (k .tool)
+  -- a message whose reply had room is as one to hm_secs_step
+  as-text : (m room : List ℕ) (items : ℕ) (left : List ℕ) (length : ℕ) → ExchangeCall before m room answer after reports items left length
+      → eqb answer 14 ≡ false → SecsCall before m answer after reports items
+  as-text m room items left length k w =
+      let e = not-fourteen (wholeIn before) m room (λ z. eqb-false answer 14 w (k .answered ∙ z)) in
+      record {
+        tool = k .tool ∙ ap (λ o. o .tool) e;
+        told = k .told ∙ ap (λ o. o .reports) e;
+        answered = k .answered ∙ ap (λ o. o .answer) e;
+        counted = k .counted;
+      }
+
+  -- and one whose reply had none leaves the tool
+  no-input : (m room : List ℕ) (items : ℕ) (left : List ℕ) (length : ℕ) → ExchangeCall before m room answer after reports items left length
+      → eqb answer 14 ≡ true → wholeIn after ≡ wholeIn before
+  no-input m room items left length k w =
+      let f : answer ≡ 14 = eqb-true answer 14 w in
+      k .tool ∙ exchange-refuses (wholeIn before) m room (λ z. fourteen-not-0 (sym f ∙ k .answered ∙ z)) .0
+
+  after-text : (m : List ℕ) (items : ℕ) → SecsCall before m answer after reports items → (earlier : List Input) (t : Whole)
+      → wholeIn before ≡ reachedWhole t earlier → wholeIn after ≡ reachedWhole t (read m ++ earlier)
+  unfolding read outcome reachedWhole bridged
+  after-text m items k earlier t e = go (eqb (requestIn m .refusal) 0) (k .tool)
     where
       go : (w : Bool)
           → wholeIn after
@@ -76,6 +115,17 @@ module _ (before : List (List ℕ)) (answer : ℕ) (after : List (List ℕ)) (re
           → wholeIn after ≡ reachedWhole t (cond w (shown (requestIn m .input) ∷ []) [] ++ earlier)
       go true q = q ∙ ap (λ t. tool.outcome t (shown (requestIn m .input)) .tool) e
       go false q = q ∙ e
+
+  tool-after : (sent : Sent) → Made before sent answer after reports → (earlier : List Input) (t : Whole)
+      → wholeIn before ≡ reachedWhole t earlier → wholeIn after ≡ reachedWhole t (taken sent answer ++ earlier)
+  unfolding taken outcome reachedWhole
+  tool-after (typed i) k earlier t e = k .tool ∙ ap (λ t. tool.outcome t (shown i) .tool) e
+  tool-after (text m items) k earlier t e = after-text m items k earlier t e
+  tool-after (lent m room items left length) k earlier t e = go (eqb answer 14) refl
+    where
+      go : (w : Bool) → eqb answer 14 ≡ w → wholeIn after ≡ reachedWhole t (cond w [] (read m) ++ earlier)
+      go true q = no-input m room items left length k q ∙ e
+      go false q = after-text m items (as-text m room items left length k q) earlier t e
 
   abbrev happens : Input → Mapped → ℕ → Event
   happens i s a = record { before = s; input = i; answer = a }
@@ -89,22 +139,31 @@ module _ (before : List (List ℕ)) (answer : ℕ) (after : List (List ℕ)) (re
       ap (λ a. happens i (stateIn before) a ∷ events (start P B) earlier) (k ∙ answer-is (wholeIn before) i h)
       ∙ ap (λ s. happens i s (answerIn s i) ∷ events (start P B) earlier) e
 
-  events-after : (sent : Sent) → Made before sent answer after reports → (P B : ℕ) (earlier : List Input)
-      → soundWhole (wholeIn before) ≡ true → stateIn before ≡ reached (start P B) earlier
-      → map (λ i. happens i (stateIn before) answer) (taken sent) ++ events (start P B) earlier ≡ events (start P B) (taken sent ++ earlier)
-  unfolding taken outcome bridged
-  events-after (typed i) k P B earlier h e = event-after (shown i) (k .answered) P B earlier h e
-  events-after (text m items) k P B earlier h e = go (eqb (requestIn m .refusal) 0) (k .answered)
-    where
-      input : Input
-      input = shown (requestIn m .input)
+  -- the inputs that a call brought are the run's next events
+  module _ (P B : ℕ) (earlier : List Input) (h : soundWhole (wholeIn before) ≡ true)
+      (e : stateIn before ≡ reached (start P B) earlier) where
+    abbrev Next : List Input → Type 0
+    Next is = map (λ i. happens i (stateIn before) answer) is ++ events (start P B) earlier ≡ events (start P B) (is ++ earlier)
 
-      go : (w : Bool)
-          → answer ≡ cond w (outcome (wholeIn before) (requestIn m .input)) (tool.refused (wholeIn before) (requestIn m .refusal)) .answer
-          → map (λ i. happens i (stateIn before) answer) (cond w (input ∷ []) []) ++ events (start P B) earlier
-          ≡ events (start P B) (cond w (input ∷ []) [] ++ earlier)
-      go true q = event-after input q P B earlier h e
-      go false q = refl
+    text-events : (m : List ℕ) (items : ℕ) → SecsCall before m answer after reports items → Next (read m)
+    unfolding read outcome bridged
+    text-events m items k = go (eqb (requestIn m .refusal) 0) (k .answered)
+      where
+        go : (w : Bool)
+            → answer ≡ cond w (outcome (wholeIn before) (requestIn m .input)) (tool.refused (wholeIn before) (requestIn m .refusal)) .answer
+            → Next (cond w (shown (requestIn m .input) ∷ []) [])
+        go true q = event-after (shown (requestIn m .input)) q P B earlier h e
+        go false q = refl
+
+    events-after : (sent : Sent) → Made before sent answer after reports → Next (taken sent answer)
+    unfolding taken outcome
+    events-after (typed i) k = event-after (shown i) (k .answered) P B earlier h e
+    events-after (text m items) k = text-events m items k
+    events-after (lent m room items left length) k = go (eqb answer 14) refl
+      where
+        go : (w : Bool) → eqb answer 14 ≡ w → Next (cond w [] (read m))
+        go true q = refl
+        go false q = text-events m items (as-text m room items left length k q)
 
 module _ (P B : ℕ) where
   -- a run begins with a set-up that was accepted
@@ -135,8 +194,8 @@ module _ (P B : ℕ) where
   events-are [] bytes l = refl
   events-are (c ∷ earlier) bytes l =
       ap (λ es. eventsOf c ++ es) (events-are earlier (c .before) (l .0))
-      ∙ events-after (c .before) (c .answer) bytes (c .reports) (c .sent) (l .1) P B (inputs earlier) (sound-is earlier (c .before) (l .0))
-      (state-is earlier (c .before) (l .0))
+      ∙ events-after (c .before) (c .answer) bytes (c .reports) P B (inputs earlier) (sound-is earlier (c .before) (l .0))
+      (state-is earlier (c .before) (l .0)) (c .sent) (l .1)
 
 -- each carrier of a state has behind it what happened
 abbrev Backed : Mapped → List Event → Type 0

@@ -15,7 +15,9 @@ use Rattle.maps.specs.Promise.{Earned}
 use Rattle.tool.specs.Whole.{wholeIn, soundWhole, setUp}
 use Rattle.door.specs.Door.{shown, outcome}
 use Rattle.secs.specs.Request.{requestIn}
+use Rattle.replies.specs.Reply.{roomAfter, writtenIn}
 use Rattle.bridge.specs.Bridge.{bridged, itemsIn}
+use Rattle.bridge.specs.Exchange.{exchanged, replied}
 
 -- What hm_setup ensures: the bytes that it leaves hold the tool that set-up gives, and it gives set-up's answer.
 pub record SetUpCall (ports places answer : ℕ) (after : List (List ℕ)) : Type 0 where
@@ -36,10 +38,23 @@ pub record SecsCall (before : List (List ℕ)) (message : List ℕ) (answer : �
   pub answered : answer ≡ bridged (wholeIn before) message .answer
   pub counted : items ≡ itemsIn message
 
--- What a call brings: an input to hm_step, or a message to hm_secs_step, which counted so many items.
+-- What hm_secs_exchange ensures: the same of the whole way, the room that it leaves, and how many bytes of it are the reply.
+pub record ExchangeCall (before : List (List ℕ)) (message room : List ℕ) (answer : ℕ) (after : List (List ℕ)) (reports : List ℕ) (items : ℕ)
+    (left : List ℕ) (length : ℕ)
+    : Type 0 where
+  pub tool : wholeIn after ≡ exchanged (wholeIn before) message room .tool
+  pub told : reportsFrom reports ≡ exchanged (wholeIn before) message room .reports
+  pub answered : answer ≡ exchanged (wholeIn before) message room .answer
+  pub counted : items ≡ itemsIn message
+  pub reply : left ≡ roomAfter room (replied (wholeIn before) message)
+  pub many : length ≡ writtenIn room (replied (wholeIn before) message)
+
+-- What a call brings: an input to hm_step; a message to hm_secs_step, which counted so many items; or a message to hm_secs_exchange,
+-- with the room that was lent, the items that were counted, the room that was left and the length of the reply.
 pub data Sent : Type 0 where
   typed : Input → Sent
   text : List ℕ → ℕ → Sent
+  lent : List ℕ → List ℕ → ℕ → List ℕ → ℕ → Sent
 
 -- A call: the bytes that it met, what was sent, the answer that it gave, and the report list that it left.
 pub record Call : Type 0 where
@@ -51,6 +66,8 @@ pub record Call : Type 0 where
 abbrev pub Made : List (List ℕ) → Sent → ℕ → List (List ℕ) → List ℕ → Type 0
 Made before (typed i) answer after reports = StepCall before i answer after reports
 Made before (text message items) answer after reports = SecsCall before message answer after reports items
+Made before (lent message room items left length) answer after reports =
+    ExchangeCall before message room answer after reports items left length
 
 -- A run of calls, the latest first, and the bytes that it left: hm_setup answered 0 for P ports and B places,
 -- and each call met the bytes that the call before it left.
@@ -63,13 +80,18 @@ abbrev pub stateIn : List (List ℕ) → Mapped
 stateIn bytes = stateOf (wholeIn bytes .mapped)
 
 -- The input that rows saw: a message that the reader refuses brings none.
-unfoldable pub taken : Sent → List Input
-taken (typed i) = shown i ∷ []
-taken (text message items) = cond (eqb (requestIn message .refusal) 0) (shown (requestIn message .input) ∷ []) []
+unfoldable pub read : List ℕ → List Input
+read message = cond (eqb (requestIn message .refusal) 0) (shown (requestIn message .input) ∷ []) []
+
+-- and none whose reply has no room
+unfoldable pub taken : Sent → ℕ → List Input
+taken (typed i) answer = shown i ∷ []
+taken (text message items) answer = read message
+taken (lent message room items left length) answer = cond (eqb answer 14) [] (read message)
 
 -- What happened in a call: the answer is the one that the call gave.
 abbrev pub eventsOf : Call → List Event
-eventsOf c = map (λ i. record { before = stateIn (c .before); input = i; answer = c .answer }) (taken (c .sent))
+eventsOf c = map (λ i. record { before = stateIn (c .before); input = i; answer = c .answer }) (taken (c .sent) (c .answer))
 
 unfoldable pub happened : List Call → List Event
 happened [] = []

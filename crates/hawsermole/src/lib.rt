@@ -7,12 +7,15 @@ ghost use Rattle.items.specs.Reading.{readMessage};
 ghost use Rattle.names.specs.Check.{nameLength};
 ghost use Rattle.waiting.specs.Waiting.{answerIn, foundIn};
 ghost use Rattle.tool.specs.Whole.{wholeIn, soundWhole};
-ghost use Rattle.hawsermole.specs.Calls.{SetUpCall, StepCall, SecsCall};
+ghost use Rattle.hawsermole.specs.Calls.{SetUpCall, StepCall, SecsCall, ExchangeCall};
+ghost use Rattle.replies.specs.Reply.{replyText, Wrote};
 use bridge::bridge::bridge_step;
+use bridge::exchange::exchange;
 use door::door::door_step;
 use items::reader::read_message;
 use names::check::name_length;
 use records::carrier::Carrier;
+use replies::reply::reply;
 use tool::whole::whole_setup;
 use tool::whole::whole_sound;
 use waiting::found::Found;
@@ -112,6 +115,32 @@ pub extern "C" fn hm_secs_step(
         r (now (tool .exit)) (now (reports .exit)) (now (items .exit)) ⌝ }
 {
     let answer = bridge_step(tool, reports, message, items);
+    answer as u32
+}
+
+// The bridge's whole way: the text of S3F17 in, the text of S3F18 out, into room that the caller lends.
+#[no_mangle]
+pub extern "C" fn hm_secs_exchange(
+    tool: &mut [[u8; 1891]; 2],
+    reports: &mut [u8; 141],
+    message: &[u8],
+    items: &mut u32,
+    room: &mut [u8],
+    length: &mut u32,
+) -> u32
+    ensures { λ r. ⌜ ExchangeCall (now (tool .entry)) (now (message .entry)) (now (room .entry))
+        r (now (tool .exit)) (now (reports .exit)) (now (items .exit)) (now (room .exit)) (now (length .exit)) ⌝ }
+{
+    let answer = exchange(tool, reports, message, items, room, length);
+    answer as u32
+}
+
+// The text of S3F18 for an answer.
+#[no_mangle]
+pub extern "C" fn hm_reply(number: u32, room: &mut [u8], length: &mut u32) -> u32
+    ensures { λ r. ⌜ Wrote (now (room .entry)) (replyText number) r (now (room .exit)) (now (length .exit)) ⌝ }
+{
+    let answer = reply(number, room, length);
     answer as u32
 }
 

@@ -2,3 +2,4 @@ pub mod Tested
 pub mod Blank
 pub mod Runs
 pub mod Only
+pub mod Refuses
