@@ -16,21 +16,14 @@ use crate::script::Run;
 use crate::shrink::{differs_after, shortest};
 use crate::tell::tell;
 
-/// The independent program with a fault planted in what comes out of a step.
-struct Faulty<F: Fn(&Tool, &Input, &mut Outcome)>(F);
-
-impl<F: Fn(&Tool, &Input, &mut Outcome)> Machine for Faulty<F> {
+/// A program that is wrong on purpose: the independent one, but for what it does otherwise.
+trait Wrong {
     fn setup(&self, ports: u32, places: u32, tool: &mut Tool) -> u32 {
         Independent.setup(ports, places, tool)
     }
 
     fn step(&self, tool: &mut Tool, input: &Input, reports: &mut Reports) -> u32 {
-        let before = *tool;
-        let answer = Independent.step(tool, input, reports);
-        let mut o = Outcome { answer, tool: *tool, reports: *reports };
-        self.0(&before, input, &mut o);
-        (*tool, *reports) = (o.tool, o.reports);
-        o.answer
+        Independent.step(tool, input, reports)
     }
 
     fn sound(&self, tool: &Tool) -> u32 {
@@ -43,6 +36,43 @@ impl<F: Fn(&Tool, &Input, &mut Outcome)> Machine for Faulty<F> {
 
     fn secs(&self, tool: &mut Tool, message: &[u8], reports: &mut Reports) -> Heard {
         Independent.secs(tool, message, reports)
+    }
+}
+
+/// The defaults stand there and not in `Machine`, where a program could lack a method unnoticed.
+impl<W: Wrong> Machine for W {
+    fn setup(&self, ports: u32, places: u32, tool: &mut Tool) -> u32 {
+        Wrong::setup(self, ports, places, tool)
+    }
+
+    fn step(&self, tool: &mut Tool, input: &Input, reports: &mut Reports) -> u32 {
+        Wrong::step(self, tool, input, reports)
+    }
+
+    fn sound(&self, tool: &Tool) -> u32 {
+        Wrong::sound(self, tool)
+    }
+
+    fn name(&self, text: &[u8]) -> u32 {
+        Wrong::name(self, text)
+    }
+
+    fn secs(&self, tool: &mut Tool, message: &[u8], reports: &mut Reports) -> Heard {
+        Wrong::secs(self, tool, message, reports)
+    }
+}
+
+/// The independent program with a fault planted in what comes out of a step.
+struct Faulty<F: Fn(&Tool, &Input, &mut Outcome)>(F);
+
+impl<F: Fn(&Tool, &Input, &mut Outcome)> Wrong for Faulty<F> {
+    fn step(&self, tool: &mut Tool, input: &Input, reports: &mut Reports) -> u32 {
+        let before = *tool;
+        let answer = Independent.step(tool, input, reports);
+        let mut o = Outcome { answer, tool: *tool, reports: *reports };
+        self.0(&before, input, &mut o);
+        (*tool, *reports) = (o.tool, o.reports);
+        o.answer
     }
 }
 
@@ -65,7 +95,7 @@ impl Mistaken {
     };
 }
 
-impl Machine for Mistaken {
+impl Wrong for Mistaken {
     fn setup(&self, ports: u32, places: u32, tool: &mut Tool) -> u32 {
         Independent.setup((self.ports)(ports), places, tool)
     }

@@ -8,23 +8,7 @@ use independent::Plain;
 /// The independent program with a fault planted in what comes out of a message.
 struct Misheard<F: Fn(&Tool, &[u8], &mut Bridged)>(F);
 
-impl<F: Fn(&Tool, &[u8], &mut Bridged)> Machine for Misheard<F> {
-    fn setup(&self, ports: u32, places: u32, tool: &mut Tool) -> u32 {
-        Independent.setup(ports, places, tool)
-    }
-
-    fn step(&self, tool: &mut Tool, input: &Input, reports: &mut Reports) -> u32 {
-        Independent.step(tool, input, reports)
-    }
-
-    fn sound(&self, tool: &Tool) -> u32 {
-        Independent.sound(tool)
-    }
-
-    fn name(&self, text: &[u8]) -> u32 {
-        Independent.name(text)
-    }
-
+impl<F: Fn(&Tool, &[u8], &mut Bridged)> Wrong for Misheard<F> {
     fn secs(&self, tool: &mut Tool, message: &[u8], reports: &mut Reports) -> Heard {
         let before = *tool;
         let heard = Independent.secs(tool, message, reports);

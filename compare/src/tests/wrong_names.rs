@@ -7,25 +7,9 @@ use crate::laws::shortened;
 fn mistaken(name: fn(&Input) -> Vec<u8>) -> Run {
     struct Reader(fn(&Input) -> Vec<u8>);
 
-    impl Machine for Reader {
-        fn setup(&self, ports: u32, places: u32, tool: &mut Tool) -> u32 {
-            Independent.setup(ports, places, tool)
-        }
-
+    impl Wrong for Reader {
         fn step(&self, tool: &mut Tool, input: &Input, reports: &mut Reports) -> u32 {
             Independent.step(tool, &Input { name: (self.0)(input), ..input.clone() }, reports)
-        }
-
-        fn sound(&self, tool: &Tool) -> u32 {
-            Independent.sound(tool)
-        }
-
-        fn name(&self, text: &[u8]) -> u32 {
-            Independent.name(text)
-        }
-
-        fn secs(&self, tool: &mut Tool, message: &[u8], reports: &mut Reports) -> Heard {
-            Independent.secs(tool, message, reports)
         }
     }
 
