@@ -8,10 +8,13 @@
 //! - P4, names padded with blanks: [`names`].
 //! - P2, is anyone waiting: [`waiting`], which is asked of a table of records and not of a tool.
 //! - P3, SECS-II from the host bridge: [`secs`], which gives the tool an input.
+//! - P13, answers to the bridge: [`reply`], with the words of [`texts`].
 
 mod maps;
 pub mod names;
+pub mod reply;
 pub mod secs;
+pub mod texts;
 mod waiting;
 
 use crate::report::Touched;
