@@ -65,7 +65,7 @@ impl Machine for Proved {
 }
 
 /// The bytes of a struct, to be written in place.
-fn lent<const N: usize>(to: &mut impl Plain) -> &mut [u8; N] {
+pub fn lent<const N: usize>(to: &mut impl Plain) -> &mut [u8; N] {
     to.bytes_mut().try_into().expect("as many bytes as the archive's")
 }
 
@@ -117,7 +117,7 @@ impl Outcome {
 }
 
 /// What stands in memory before it is written: an entry that a program leaves as it was is then seen.
-fn left_over<T: Plain>() -> T {
+pub fn left_over<T: Plain>() -> T {
     T::from_bytes(&vec![0xA5; size_of::<T>()]).expect("as long as it should be")
 }
 

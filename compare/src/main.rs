@@ -3,8 +3,9 @@
 //! it, and ends the comparison with status 1.
 //!
 //! `compare [N]`: some N inputs in each of the large parts; 100,000 where no N is given. Messages are a fifth of N up
-//! to 100,000, and N beyond.
+//! to 100,000, and N beyond; messages that are answered a fourth of these.
 
+mod answer;
 mod laws;
 mod machine;
 mod pairs;
@@ -18,17 +19,23 @@ mod tests;
 
 use std::process::ExitCode;
 
+use answer::{Repliers, Worded};
 use independent::gen::Rng;
+use independent::requests::texts::Texts as Words;
 use machine::{Both, Independent, Proved};
 use pairs::{allowed, Pairs};
 use parts::damaged::Damage;
 use parts::messages::Messages;
 use parts::names::Texts;
+use parts::replies::Replies;
 use parts::waiting::{Looks, Tables};
-use parts::{damaged, edges, maps, messages, names, odd, runs, setups, states, twelve, waiting};
+use parts::{damaged, edges, maps, messages, names, odd, replies, runs, setups, states, twelve, waiting};
 use play::{Finding, Tally};
 
 const SEED: u64 = 20_870_312;
+
+/// The page that has the texts of the answers to the bridge.
+const REPLIES: &str = concat!(env!("CARGO_MANIFEST_DIR"), "/../docs/REPLIES.md");
 
 /// Runs that refuse most of what they are given would show little.
 const LEAST_ACCEPTED: f64 = 60.0;
@@ -42,10 +49,19 @@ fn main() -> ExitCode {
         println!("the archive has other sizes than the structs that are lent to it");
         return ExitCode::FAILURE;
     };
+    let page = std::fs::read_to_string(REPLIES).unwrap_or_default();
+    let texts = match Words::read(&page) {
+        Ok(texts) => texts,
+        Err(why) => {
+            println!("docs/REPLIES.md has no table of texts, or it can't be read: {why:?}");
+            return ExitCode::FAILURE;
+        }
+    };
     let both = Both { proved: &proved, independent: &Independent };
     let looks =
         Looks { proved: &|records| waiting::proved(&proved, records), independent: &waiting::independent };
-    match compare(&both, &looks, total) {
+    let repliers = Repliers { proved: &proved, independent: &Worded(texts), texts: &texts };
+    match compare(&both, &looks, &repliers, total) {
         Ok(table) => table.end(),
         Err(finding) => {
             println!("{}", tell::tell(&both, &finding));
@@ -73,6 +89,7 @@ struct Table {
     texts: Texts,
     tables: Tables,
     messages: Messages,
+    replies: Replies,
 }
 
 impl Table {
@@ -121,10 +138,21 @@ impl Table {
             "{compared} messages were read and stepped, {ordered} of them from an input; answers {}",
             self.messages
         );
+        let unanswered = self.replies.unmet();
+        if !unanswered.is_empty() {
+            println!("NOT MET among the messages that are answered: {}", unanswered.join(", "));
+        }
+        let Replies { texts, texts_too_long, messages, messages_too_long, .. } = self.replies;
+        println!("{texts} answers were written to a room, {texts_too_long} of them too long for it");
+        println!(
+            "{messages} messages were answered in a room, {messages_too_long} of them with 14; the others {}",
+            self.replies
+        );
         let (met, all, inputs) = (self.along_runs.met(), allowed(), self.inputs);
         println!("{met} of {all} pairs of row and answer met along the runs; {inputs} inputs compared, no difference");
         let shown = !self.at_once.contains(&0) && !self.padded.contains(&0);
-        if missing.is_empty() && self.runs_accepted >= LEAST_ACCEPTED && shown && unmet.is_empty() {
+        let all_met = missing.is_empty() && unmet.is_empty() && unanswered.is_empty();
+        if all_met && self.runs_accepted >= LEAST_ACCEPTED && shown {
             ExitCode::SUCCESS
         } else {
             ExitCode::FAILURE
@@ -132,7 +160,7 @@ impl Table {
     }
 }
 
-fn compare(both: &Both, looks: &Looks, total: u64) -> Result<Table, Finding> {
+fn compare(both: &Both, looks: &Looks, repliers: &Repliers, total: u64) -> Result<Table, Finding> {
     let mut table = Table::default();
     let mut rng = Rng::new(SEED);
     println!(
@@ -159,5 +187,6 @@ fn compare(both: &Both, looks: &Looks, total: u64) -> Result<Table, Finding> {
     table.tables = waiting::compare(looks, total, &mut rng)?;
     let messages = if total <= 100_000 { total / 5 } else { total };
     table.messages = messages::compare(both, messages, &mut rng)?;
+    table.replies = replies::compare(repliers, messages / 4, &mut rng)?;
     Ok(table)
 }

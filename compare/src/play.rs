@@ -27,8 +27,8 @@ pub enum Finding {
     Law(Box<Tool>, Input, String),
     /// As `Document`, of the name in a text.
     NameLaw(Vec<u8>, String),
-    /// The programs don't find the same carrier of a table, or are both against the documents: in words.
-    Table(String),
+    /// The programs differ, or are both against the documents, in something that isn't an input: in words.
+    Told(String),
     /// As `Document`, of a message.
     MessageLaw(Box<Tool>, Vec<u8>, String),
 }

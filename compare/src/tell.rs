@@ -27,7 +27,7 @@ pub fn tell(both: &Both, finding: &Finding) -> String {
         Finding::NameLaw(text, why) => {
             format!("BOTH ARE AGAINST THE DOCUMENTS: {why}. The text:\n{}\n", hex(text))
         }
-        Finding::Table(told) => told.clone(),
+        Finding::Told(told) => told.clone(),
         Finding::MessageLaw(tool, message, why) => {
             let (state, message) = (bytes(tool), hex(message));
             format!("BOTH ARE AGAINST THE DOCUMENTS: {why}. From the state\n{state}secs {message}\n")
@@ -94,7 +94,8 @@ fn tell_message(both: &Both, tool: &Tool, message: &[u8]) -> String {
     out + &answers(&one.outcome, &other.outcome)
 }
 
-fn answers(proved: &Outcome, independent: &Outcome) -> String {
+/// What each program answers and reports, and where the states after it differ.
+pub fn answers(proved: &Outcome, independent: &Outcome) -> String {
     let mut out = format!("proved       {}\nindependent  {}\n", printed(proved), printed(independent));
     if proved.reports.bytes() != independent.reports.bytes() && printed(proved) == printed(independent) {
         let _ = writeln!(out, "the entries past the count, or bytes that a report doesn't use, differ");

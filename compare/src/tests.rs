@@ -3,6 +3,7 @@
 mod wrong_maps;
 mod wrong_messages;
 mod wrong_names;
+mod wrong_replies;
 
 use independent::gen::requests::random_run_input;
 use independent::gen::{Input, Rng};

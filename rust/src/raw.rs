@@ -47,6 +47,21 @@ unsafe extern "C" {
         length: u64,
         items: &mut u32,
     ) -> u32;
+    /// The S3F18 text of an answer number, at the room's beginning: 0; or 14, and the room is untouched, where the text
+    /// is longer. The length is the text's in either case.
+    pub fn hm_reply(number: u32, room: *mut u8, room_len: usize, length: &mut u32) -> u32;
+    /// A message, read, stepped and answered in the room: the answer; or 14, and only the items and the length of that
+    /// answer's text are given, where the text is longer than the room.
+    pub fn hm_secs_exchange(
+        tool: &mut [u8; TOOL_BYTES],
+        reports: &mut [u8; REPORTS_BYTES],
+        message: *const u8,
+        message_len: usize,
+        items: &mut u32,
+        room: *mut u8,
+        room_len: usize,
+        length: &mut u32,
+    ) -> u32;
     /// Where the reading of a message stopped; [`secs_at`] is the same with a slice.
     pub fn hm_secs_at(message: *const u8, length: u64) -> u64;
     /// One input; [`step`] is the same with slices.

@@ -6,6 +6,7 @@ pub mod maps;
 pub mod messages;
 pub mod names;
 pub mod odd;
+pub mod replies;
 pub mod runs;
 pub mod setups;
 pub mod states;

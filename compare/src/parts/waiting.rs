@@ -85,10 +85,10 @@ fn small_tables() -> Vec<Vec<Carrier>> {
 fn one(looks: &Looks, tables: &mut Tables, table: &[Carrier]) -> Result<(), Finding> {
     let found = (looks.proved)(table);
     if found != (looks.independent)(table) {
-        return Err(Finding::Table(differ(looks, table)));
+        return Err(Finding::Told(differ(looks, table)));
     }
     if !lawful(table, found) {
-        return Err(Finding::Table(against(table, found)));
+        return Err(Finding::Told(against(table, found)));
     }
     tables.compared += 1;
     tables.waiting += found.waits as u64;
@@ -161,7 +161,7 @@ mod tests {
     /// What is told where one program looks so.
     fn found(wrong: Look) -> String {
         let looks = Looks { proved: &wrong, independent: &independent };
-        let Err(Finding::Table(told)) = compare(&looks, 2_000, &mut Rng::new(5)) else { panic!("not found") };
+        let Err(Finding::Told(told)) = compare(&looks, 2_000, &mut Rng::new(5)) else { panic!("not found") };
         assert!(told.starts_with("DIFFERENT. The table of "), "{told}");
         told
     }
@@ -210,7 +210,7 @@ mod tests {
     fn both_wrong_alike_is_against_the_documents() {
         let none: Look = |table| Found { waits: 0, position: table.len() as u64, read: table.len() as u64 };
         let looks = Looks { proved: &none, independent: &none };
-        let Err(Finding::Table(told)) = compare(&looks, 0, &mut Rng::new(5)) else { panic!("not found") };
+        let Err(Finding::Told(told)) = compare(&looks, 0, &mut Rng::new(5)) else { panic!("not found") };
         let begins =
             "BOTH ARE AGAINST THE DOCUMENTS: answer 0, position 1, 1 read. The table of 1 records:\n";
         assert!(told.starts_with(begins), "{told}");
