@@ -1,10 +1,12 @@
 #!/usr/bin/env python3
-"""Holds the reader of messages to tshark's dissector of HSMS: the same items at the same bytes, with the same values.
+"""Holds messages and answers to tshark's dissector of HSMS: the same items at the same bytes, with the same values.
 
-    tests/tshark/compare.py [--program target/hawsermole] [N [SEED]]
+    tests/tshark/compare.py [--program target/hawsermole] [--texts docs/REPLIES.md] [N [SEED]]
 
 N messages (2000) of random items within the reader's limits, each behind HSMS's length and ten bytes of header in a TCP
-packet of its own. The reader's tree is what `secs` prints with --explain. Not in the gate: it needs Debian's tshark.
+packet of its own. The reader's tree is what `secs` prints with --explain. Then the answers that `reply` writes for some
+numbers: what tshark reads in them is what the request asks for, with the page's texts. Not in the gate: it needs
+Debian's tshark.
 """
 import argparse
 import random
@@ -23,6 +25,8 @@ FORMATS = {0o00: ("L", 0), 0o10: ("B", 1), 0o11: ("BOOLEAN", 1), 0o20: ("A", 1),
            0o32: ("I2", 2), 0o34: ("I4", 4), 0o40: ("F8", 8), 0o44: ("F4", 4), 0o50: ("U8", 8), 0o51: ("U1", 1),
            0o52: ("U2", 2), 0o54: ("U4", 4)}
 BEFORE_ITEMS = 14 + 20 + 20 + 4 + 10  # Ethernet, IP, TCP, HSMS's length and header
+S3F17, S3F18 = (0x83, 17), (0x03, 18)  # the first asks for an answer
+ANSWERS = [*range(41), 255, 256, 65535]
 
 
 def head(draw, code, count):
@@ -49,27 +53,27 @@ def item(draw, depth, left):
     return head(draw, code, len(data)) + data, 1
 
 
-def packet(message, number):
-    """A TCP packet with the message as S3F17, from an address of its own."""
-    hsms = struct.pack(">IHBBBBI", 10 + len(message), 1, 0x83, 17, 0, 0, number) + message
+def packet(kind, message, number):
+    """A TCP packet with the message, from an address of its own."""
+    hsms = struct.pack(">IHBBBBI", 10 + len(message), 1, *kind, 0, 0, number) + message
     tcp = struct.pack(">HHIIBBHHH", 40000, PORT, 1, 1, 5 << 4, 0x18, 65535, 0, 0) + hsms
     address = 0x0A000000 + number
     ip = struct.pack(">BBHHHBBHII", 0x45, 0, 20 + len(tcp), 0, 0, 64, 6, 0, address, 0x0AFFFFFF) + tcp
     return bytes(12) + b"\x08\x00" + ip
 
 
-def capture(messages):
+def capture(kind, messages):
     out = struct.pack("<IHHiIII", 0xA1B2C3D4, 2, 4, 0, 0, 262144, 1)
     for number, message in enumerate(messages):
-        bytes_of = packet(message, number)
+        bytes_of = packet(kind, message, number)
         out += struct.pack("<IIII", number, 0, len(bytes_of), len(bytes_of)) + bytes_of
     return out
 
 
-def by_tshark(messages):
+def by_tshark(kind, messages):
     """For each message its items: where, how deep, format, values."""
     with tempfile.NamedTemporaryFile(suffix=".pcap") as file:
-        file.write(capture(messages))
+        file.write(capture(kind, messages))
         file.flush()
         words = ["tshark", "-r", file.name, "-d", f"tcp.port=={PORT},hsms", "-T", "pdml"]
         told = subprocess.run(words, stdout=subprocess.PIPE, stderr=subprocess.DEVNULL, check=True).stdout
@@ -148,7 +152,7 @@ def parsed(text):
 
 def compared(program, messages):
     """All items of the messages, which are the same to both; else the first that isn't ends the run."""
-    one, other = by_reader(program, messages), by_tshark(messages)
+    one, other = by_reader(program, messages), by_tshark(S3F17, messages)
     if not len(messages) == len(one) == len(other):
         sys.exit(f"{len(messages)} messages, {len(one)} read, {len(other)} dissected")
     for message, read, dissected in zip(messages, one, other):
@@ -158,9 +162,46 @@ def compared(program, messages):
     return [found for tree in one for found in tree]
 
 
+def texts_of(page):
+    """The page's table: a text for each refusal, and one for every other number."""
+    with open(page, encoding="utf-8") as file:
+        table = re.search(r"^\| *number *\| *text *\|\n\|[-: |]+\|\n((?:\|.*\n?)+)", file.read(), re.MULTILINE)
+    rows = re.findall(r"^\| *(\d+|other) *\| *([^|]+?) *\|$", table[1] if table else "", re.MULTILINE)
+    texts = dict(rows)
+    if len(rows) != len(texts) or texts.keys() != {"other", *map(str, [*range(1, 15), *range(20, 30)])}:
+        sys.exit(f"{page} has other rows than one for each refusal and one for other: {[name for name, _ in rows]}")
+    return texts
+
+
+def answer_of(number, texts):
+    """The bytes that an answer has and its items, as the request asks for them; one length byte is the shortest."""
+    acknowledge = 0 if number == 0 else 3 if number == 1 or 20 <= number <= 26 else 5
+    head = [(0, 0, "L", ["2"]), (2, 1, "U1", [str(acknowledge)]), (5, 1, "L", ["0" if number == 0 else "1"])]
+    if number == 0:
+        return 7, head
+    text = texts.get(str(number), texts["other"]).encode()
+    return 15 + len(text), head + [(7, 2, "L", ["2"]), (9, 3, "U2", [str(number)]), (13, 3, "A", [text.hex()])]
+
+
+def answered(program, texts):
+    """Every answer that the program writes has the items that the request asks for, to tshark."""
+    script = "".join(f"reply {number} 200\n" for number in ANSWERS)
+    told = subprocess.run([program, "-"], input=script, stdout=subprocess.PIPE, text=True, check=True).stdout
+    written = [bytes.fromhex(text) for text in re.findall(r"^reply 0 ([0-9a-f]+)$", told, re.MULTILINE)]
+    dissected = by_tshark(S3F18, written)
+    if not len(ANSWERS) == len(written) == len(dissected):
+        sys.exit(f"{len(ANSWERS)} answers, {len(written)} written, {len(dissected)} dissected")
+    for number, text, items in zip(ANSWERS, written, dissected):
+        asked_for = answer_of(number, texts)
+        if (len(text), items) != asked_for:
+            sys.exit(f"DIFFERENT: reply {number}: {text.hex()}\ndissected  {len(text), items}\nasked for  {asked_for}")
+    return sum(len(items) for items in dissected)
+
+
 def main():
     words = argparse.ArgumentParser(description=__doc__.splitlines()[0])
     words.add_argument("--program", default="target/hawsermole")
+    words.add_argument("--texts", default="docs/REPLIES.md")
     words.add_argument("messages", nargs="?", type=int, default=2000)
     words.add_argument("seed", nargs="?", type=int, default=1)
     asked = words.parse_args()
@@ -177,6 +218,8 @@ def main():
     if len(met) != len(FORMATS) or deepest != DEPTH:
         sys.exit(f"too little was met for this to mean anything: formats {sorted(met)}, an item in {deepest} lists")
     print(f"tshark: {asked.messages} messages, {items} items of {len(met)} formats, the same trees")
+    items = answered(asked.program, texts_of(asked.texts))
+    print(f"tshark: {len(ANSWERS)} answers, {items} items, as P13 asks for them")
 
 
 main()
