@@ -8,7 +8,7 @@ use independent::Reports;
 
 use crate::machine::{left_over, lent, Outcome, Proved};
 
-/// What a program says of a text: 0 or 14, and how long it is.
+/// What a program says of a text: 0 or 14, and how many bytes it wrote.
 #[derive(Clone, Copy, Debug, PartialEq, Eq)]
 pub struct Written {
     pub answer: u32,
@@ -47,8 +47,10 @@ pub struct Worded<'a>(pub Texts<'a>);
 
 impl Replier for Worded<'_> {
     fn reply(&self, number: u32, room: &mut [u8]) -> Written {
-        let length = reply::length(number, &self.0);
-        Written { answer: reply::reply(number, &self.0, room).err().unwrap_or(0), length }
+        match reply::reply(number, &self.0, room) {
+            Ok(length) => Written { answer: 0, length },
+            Err(answer) => Written { answer, length: 0 },
+        }
     }
 
     fn exchange(&self, tool: &mut Tool, message: &[u8], reports: &mut Reports, room: &mut [u8]) -> Exchanged {

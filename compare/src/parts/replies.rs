@@ -163,7 +163,7 @@ fn lawful_reply(text: &[u8], before: &[u8]) -> Reply {
     let length = text.len();
     match before.split_at_checked(length) {
         Some((_, past)) => Reply { written: Written { answer: 0, length }, room: [text, past].concat() },
-        None => Reply { written: Written { answer: 14, length }, room: before.to_vec() },
+        None => Reply { written: Written { answer: 14, length: 0 }, room: before.to_vec() },
     }
 }
 

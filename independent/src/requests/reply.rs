@@ -106,7 +106,7 @@ pub struct Exchanged {
     pub answer: u32,
     /// As many items as [`secs_step`] counts.
     pub items: u32,
-    /// The bytes of the text of the reader's refusal or the tool's answer, written or not.
+    /// How many bytes of the room are the text: none with 14.
     pub length: usize,
 }
 
@@ -127,7 +127,7 @@ pub fn exchange(
         Err(too_small) => {
             *t = before;
             *out = Reports::NONE;
-            Exchanged { answer: too_small, items, length: length(answer, texts) }
+            Exchanged { answer: too_small, items, length: 0 }
         }
     }
 }
