@@ -3,9 +3,10 @@
  * Verify the pod before you open it.
  *
  * Three steps: hm_setup once, hm_step for every input, and after each accepted input pass the reports on.
- * A host's S3F17 goes to hm_secs_step as it came: the text is read, and what it asks for is stepped.
+ * A host's S3F17 goes to hm_secs_exchange as it came: the text is read, what it asks for is stepped, and the text of
+ * S3F18, the answer to the host, is written into room that you lend. hm_secs_step is the same without the reply.
  * The rules are document 01's, with document 02's requests P1, expected maps, P3, SECS-II from the host bridge,
- * P4, names padded with blanks, and P2: hm_waiting.
+ * P4, names padded with blanks, P2: hm_waiting, and P13, answers to the bridge.
  * C99, C11 and C++17.
  * Link with libhawsermole.a; see examples/firmware.c and examples/host_bridge.c. hawsermole_words.h has words for the
  * numbers, and a carrier by its name; hawsermole_events.h SEMI E87's numbers of what a report tells.
@@ -21,10 +22,11 @@
  * WHAT THE CALLER ANSWERS FOR (nothing checks these)
  * - Every pointer is valid for the whole of what it points to, and none is NULL, also where a length is 0:
  *   HM_NOTHING, with length 0, stands for no name, no codes or no message.
- * - The tool, the reports and the count of items don't overlap, and none of them overlaps the name, the codes or the
- *   message. So don't pass a name that stands in that same tool or in those reports: copy it out first.
- * - One caller at a time for one tool, and nobody else reads or writes that tool, its reports, the name, the codes
- *   or the message during the call. Different tools may be used at the same time: the library keeps no state.
+ * - What is written (the tool, the reports, the count of items, the room, the reply's length) doesn't overlap, and none
+ *   of it overlaps the name, the codes or the message. So don't pass a name that stands in that same tool or in those
+ *   reports: copy it out first. Nor is a reply written over the message that it answers.
+ * - One caller at a time for one tool, and nobody else reads or writes what a call was handed while it runs.
+ *   Different tools may be used at the same time: the library keeps no state.
  * - An accepted input has had its whole effect in the record, whatever the machine has done so far. So it is sent when
  *   the thing is done, and its reports are passed on no earlier. HM_INPUT_CANCEL_CARRIER closes an open pod's record at
  *   once: another may be opened, its port is READY TO UNLOAD. Shut the pod first (ask a copy of the tool before that);
@@ -65,6 +67,7 @@ extern "C" {
 #define HM_BLANK 0x20              /* the only byte that is a blank */
 #define HM_SECS_ITEMS 128          /* items of a message */
 #define HM_SECS_DEPTH 6            /* lists of a message, one in another, the outermost at one */
+#define HM_REPLY_ROOM 95           /* bytes of room that every reply fits into: 15 and a text of at most 80 */
 #define HM_SPARE_BYTES 991         /* bytes of a tool that hold nothing yet */
 #define HM_TOOL_BYTES 3782
 #define HM_REPORTS_BYTES 141
@@ -112,23 +115,28 @@ enum hm_input {
     HM_INPUT_UNLOAD_FAIL = 26                  /* port */
 };
 
-/* The answers of hm_step: accepted, or the lowest refusal that applies. hm_setup answers 0 or 1. */
+/*
+ * The answers of hm_step: accepted, or the lowest refusal, 1 to 8, that applies. hm_setup answers 0 or 1. The last
+ * one is of the functions that write a reply, hm_reply and hm_secs_exchange, alone.
+ */
 enum hm_answer {
     HM_ACCEPTED = 0,
-    HM_REFUSED_OUT_OF_RANGE = 1,         /* a port, place, value or name is outside its range, the input number
-                                            isn't 1 to 26, or the tool isn't sound: hm_sound tells which */
-    HM_REFUSED_NO_RECORD = 2,            /* the name has no record */
-    HM_REFUSED_NAME_TAKEN = 3,           /* the name is taken */
-    HM_REFUSED_RESERVED_OR_TIED = 4,     /* the port is reserved or tied */
-    HM_REFUSED_CONDITIONS = 5,           /* the row's conditions on state don't hold */
-    HM_REFUSED_EXPECTED_FULL = 6,        /* 16 carriers are expected already */
-    HM_REFUSED_NOT_VERIFIED = 7,         /* not verified */
-    HM_REFUSED_PLACE_OR_OPENER_TAKEN = 8 /* the buffer place is taken, or the opener is in use */
+    HM_REFUSED_OUT_OF_RANGE = 1,          /* a port, place, value or name is outside its range, the input number
+                                             isn't 1 to 26, or the tool isn't sound: hm_sound tells which */
+    HM_REFUSED_NO_RECORD = 2,             /* the name has no record */
+    HM_REFUSED_NAME_TAKEN = 3,            /* the name is taken */
+    HM_REFUSED_RESERVED_OR_TIED = 4,      /* the port is reserved or tied */
+    HM_REFUSED_CONDITIONS = 5,            /* the row's conditions on state don't hold */
+    HM_REFUSED_EXPECTED_FULL = 6,         /* 16 carriers are expected already */
+    HM_REFUSED_NOT_VERIFIED = 7,          /* not verified */
+    HM_REFUSED_PLACE_OR_OPENER_TAKEN = 8, /* the buffer place is taken, or the opener is in use */
+    HM_REFUSED_ROOM_TOO_SMALL = 14        /* the reply is longer than the room lent for it: nothing was written */
 };
 
 /*
- * What hm_secs_step answers, besides enum hm_answer, to a message that isn't the text of an S3F17: the first that is
- * met, and the lowest at one item. Items are met in the order in which they begin, a list before its elements.
+ * What hm_secs_step and hm_secs_exchange answer, besides enum hm_answer, to a message that isn't the text of an S3F17:
+ * the first that is met, and the lowest at one item. Items are met in the order in which they begin, a list before its
+ * elements.
  */
 enum hm_secs_refusal {
     HM_REFUSED_CUT_SHORT = 20,       /* the message ends inside an item, or before one that a list counts */
@@ -312,6 +320,27 @@ uint32_t hm_secs_step(hm_tool *tool, hm_reports *reports, const uint8_t *message
  * the first byte left over, else the end of the message. For a log; hm_secs_step doesn't need it.
  */
 uint64_t hm_secs_at(const uint8_t *message, uint64_t length);
+
+/*
+ * The bridge's whole way: the text of S3F17 in, the text of S3F18 out. Answer, tool, reports and *items are those of
+ * hm_secs_step, and the room has the reply to that answer, as hm_reply writes it: *length bytes from its first.
+ * But HM_REFUSED_ROOM_TOO_SMALL exactly when that reply is longer than the room: then the tool gets no input, whatever
+ * the message asked for, and is as it was, byte for byte; the reports are all zero, no byte of the room is written, and
+ * *length is 0. Lend more and send the same message again. HM_REPLY_ROOM bytes are always enough.
+ */
+uint32_t hm_secs_exchange(hm_tool *tool, hm_reports *reports, const uint8_t *message, uint64_t message_length,
+                          uint32_t *items, uint8_t *room, uint64_t room_length, uint32_t *length);
+
+/*
+ * Writes the text of S3F18 for an answer of any function here: a list of the acknowledge byte (U1: 0 accepted, 3 for
+ * 1 and 20 to 26, 5 for any other number) and a list of errors, which is empty for 0 and else holds one pair, the
+ * number (U2) and its text (ASCII, 1 to 80 bytes; docs/REPLIES.md has them all). Length bytes are the shortest.
+ * The number may be any: one that no refusal has is an "Unknown refusal", and past 65,535 its code is 65,535.
+ * 0: the text stands at the room's start, *length is how many bytes it has (7 for 0), and all bytes after it are as
+ * they were. HM_REFUSED_ROOM_TOO_SMALL, exactly when the text is longer than the room: no byte of it is written, and
+ * *length is 0. HM_REPLY_ROOM bytes are always enough. What *length held before is gone.
+ */
+uint32_t hm_reply(uint32_t number, uint8_t *room, uint64_t room_length, uint32_t *length);
 
 /* 1 when the tool, whatever its bytes, is sound, else 0. Changes nothing. hm_step asks it for every input. */
 uint32_t hm_sound(const hm_tool *tool);

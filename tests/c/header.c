@@ -18,6 +18,7 @@ HM_HOLDS(limits_of_a_message, HM_SECS_ITEMS == 128 && HM_SECS_DEPTH == 6);
 HM_HOLDS(refusals_at_an_item, HM_REFUSED_CUT_SHORT == 20 && HM_REFUSED_UNKNOWN_CODE == 21);
 HM_HOLDS(more_at_an_item, HM_REFUSED_BAD_LENGTH == 22 && HM_REFUSED_TOO_DEEP == 23 && HM_REFUSED_TOO_MANY_ITEMS == 24);
 HM_HOLDS(refusals_of_a_message, HM_REFUSED_BYTES_LEFT_OVER == 25 && HM_REFUSED_SHAPE_OR_ACTION == 26);
+HM_HOLDS(a_reply, HM_REPLY_ROOM == 15 + 80 && HM_REFUSED_ROOM_TOO_SMALL == 14);
 HM_HOLDS(bytes_of_a_tool, HM_TOOL_BYTES == 2 * 1891 && HM_SPARE_BYTES == 1891 - HM_RECORDS * HM_SLOTS);
 
 static hm_tool tool;
@@ -150,14 +151,17 @@ static void names(void)
     CHECK(memcmp(reports.items[0].name, text, HM_NAME_BYTES) == 0);
 }
 
+/* The text of S3F17, CarrierNotification of a name of one byte. */
+static uint8_t notify[] = {0x01, 5, 0xA5, 1, 0, 0x41, 19, 'C', 'a', 'r', 'r', 'i', 'e', 'r', 'N', 'o', 't',
+                           'i', 'f', 'i', 'c', 'a', 't', 'i', 'o', 'n', 0x41, 1, '?', 0xA5, 1, 9, 0x01, 0};
+#define NAME_AT 28
+
 static void messages(void)
 {
-    static const uint8_t notify[] = {0x01, 5, 0xA5, 1, 0, 0x41, 19, 'C', 'a', 'r', 'r', 'i', 'e', 'r', 'N', 'o',
-                                     't', 'i', 'f', 'i', 'c', 'a', 't', 'i', 'o', 'n', 0x41, 1, 'M', 0xA5, 1, 9,
-                                     0x01, 0};
     uint32_t items = 0;
     const uint8_t records = tool.count;
 
+    notify[NAME_AT] = 'M';
     CHECK(hm_secs_step(&tool, &reports, notify, sizeof notify, &items) == HM_ACCEPTED && items == 6);
     CHECK(tool.count == records + 1 && reports.count == 3 && is_name(reports.items[0].name, "M"));
     CHECK(hm_secs_at(notify, sizeof notify) == sizeof notify);
@@ -165,6 +169,28 @@ static void messages(void)
     CHECK(hm_secs_step(&tool, &reports, notify, 5, &items) == HM_REFUSED_CUT_SHORT && items == 2);
     CHECK(hm_secs_at(notify, 5) == 5 && hm_secs_at(HM_NOTHING, 0) == 0 && reports.count == 0);
     CHECK(hm_secs_step(&tool, &reports, HM_NOTHING, 0, &items) == HM_REFUSED_CUT_SHORT && items == 0);
+}
+
+static void replies(void)
+{
+    static const uint8_t accepted[] = {0x01, 2, 0xA5, 1, 0, 0x01, 0};
+    const uint8_t records = tool.count;
+    uint8_t room[HM_REPLY_ROOM], other[HM_REPLY_ROOM];
+    uint32_t items = 0, length = 1, other_length = 1;
+
+    notify[NAME_AT] = 'R';
+    CHECK(hm_reply(HM_ACCEPTED, room, sizeof accepted - 1, &length) == HM_REFUSED_ROOM_TOO_SMALL && length == 0);
+    CHECK(hm_reply(HM_ACCEPTED, room, sizeof accepted, &length) == HM_ACCEPTED && length == sizeof accepted);
+    CHECK(memcmp(room, accepted, sizeof accepted) == 0);
+    CHECK(hm_secs_exchange(&tool, &reports, notify, sizeof notify, &items, room, sizeof accepted - 1, &length) ==
+              HM_REFUSED_ROOM_TOO_SMALL && items == 6 && length == 0 && tool.count == records && reports.count == 0);
+    CHECK(hm_secs_exchange(&tool, &reports, notify, sizeof notify, &items, room, sizeof room, &length) == HM_ACCEPTED);
+    CHECK(items == 6 && tool.count == records + 1 && reports.count == 3 && length == sizeof accepted);
+    CHECK(memcmp(room, accepted, sizeof accepted) == 0);
+    CHECK(hm_secs_exchange(&tool, &reports, notify, sizeof notify, &items, room, sizeof room, &length) ==
+          HM_REFUSED_NAME_TAKEN);
+    CHECK(hm_reply(HM_REFUSED_NAME_TAKEN, other, sizeof other, &other_length) == HM_ACCEPTED);
+    CHECK(length == other_length && memcmp(room, other, length) == 0 && room[4] == 5 && room[12] == 3);
 }
 
 static void refusals(void)
@@ -207,6 +233,7 @@ int main(void)
     a_pod_without_a_name();
     names();
     messages();
+    replies();
     refusals();
     return result("header");
 }
