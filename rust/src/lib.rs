@@ -2,11 +2,12 @@
 //! load ports, pods and the buffer, one input at a time, no heap.
 //!
 //! The machine itself is an archive, `libhawsermole.a`, proved to give exactly the answer, the state and the
-//! reports that document 01 lays down, with document 02's requests P1, P3, P4 and P6. This crate wraps it: an [`Input`]
-//! has document 01's name and arguments, a [`Refusal`] is one of its eight reasons, [`Reports`] gives what changed and
-//! [`Event`] which transitions of E87 that is, an [`ExpectedMap`] lets the tool judge a slot map that the host knows
-//! beforehand, [`Name::in_text`] tells which name a tag reader's text has without the blanks at its end, and
-//! [`Tool::secs_step`] takes a host's S3F17 as it came. [`states`] has every state by E87's word.
+//! reports that document 01 lays down, with document 02's requests P1, P3, P4, P6 and P13. This crate wraps it: an
+//! [`Input`] has document 01's name and arguments, a [`Refusal`] is one of its eight reasons, [`Reports`] gives what
+//! changed and [`Event`] which transitions of E87 that is, an [`ExpectedMap`] lets the tool judge a slot map that the
+//! host knows beforehand, [`Name::in_text`] tells which name a tag reader's text has without the blanks at its end,
+//! [`Tool::secs_step`] takes a host's S3F17 as it came, and [`Tool::secs_exchange`] writes the S3F18 that answers it,
+//! too. [`states`] has every state by E87's word.
 //!
 //! ```
 //! use hawsermole::{Input, Model, Refusal, Subject, Tool};
@@ -54,6 +55,7 @@ mod map;
 mod name;
 pub mod raw;
 mod refusal;
+mod reply;
 mod report;
 mod row;
 pub mod states;
@@ -67,6 +69,7 @@ pub use map::{ExpectedMap, MapError};
 pub use name::{Name, NameError, NAME_BYTES, TEXT_BYTES};
 pub use raw::{secs_at, CARRIER_BYTES, REPORTS_BYTES, TOOL_BYTES};
 pub use refusal::Refusal;
+pub use reply::{reply, Exchanged, REPLY_ROOM};
 pub use report::{Model, Report, Reports, Subject, REPORTS};
 pub use row::{Argument, Row, ROWS};
 pub use tool::{Bridged, Carrier, Port, Tool, PORTS, RECORDS, SECS_DEPTH, SECS_ITEMS, SLOTS};

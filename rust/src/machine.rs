@@ -46,6 +46,20 @@ pub fn secs_step(
     (answer, items)
 }
 
+/// A message and its reply: the answer, the count of items and the reply's length; tool, reports and room are written.
+pub fn secs_exchange(
+    tool: &mut [u8; TOOL_BYTES],
+    reports: &mut [u8; REPORTS_BYTES],
+    message: &[u8],
+    room: &mut [u8],
+) -> (u32, u32, u32) {
+    check_sizes();
+    let (mut items, mut length) = (0, 0);
+    // SAFETY: the sizes agree.
+    let answer = unsafe { raw::secs_exchange(tool, reports, message, &mut items, room, &mut length) };
+    (answer, items, length)
+}
+
 fn check_sizes() {
     assert!(raw::sizes_agree(), "libhawsermole.a and this crate are of different versions");
 }

@@ -47,21 +47,19 @@ unsafe extern "C" {
         length: u64,
         items: &mut u32,
     ) -> u32;
-    /// The S3F18 text of an answer number, at the room's beginning: 0; or 14, and the room is untouched, where the text
-    /// is longer. The length is the text's in either case.
-    pub fn hm_reply(number: u32, room: *mut u8, room_len: usize, length: &mut u32) -> u32;
-    /// A message, read, stepped and answered in the room: the answer; or 14, and only the items and the length of that
-    /// answer's text are given, where the text is longer than the room.
+    /// A message, read and then stepped, and its reply; [`secs_exchange`] is the same with slices.
     pub fn hm_secs_exchange(
         tool: &mut [u8; TOOL_BYTES],
         reports: &mut [u8; REPORTS_BYTES],
         message: *const u8,
-        message_len: usize,
+        message_length: u64,
         items: &mut u32,
         room: *mut u8,
-        room_len: usize,
+        room_length: u64,
         length: &mut u32,
     ) -> u32;
+    /// The reply to an answer; [`reply`] is the same with a slice.
+    pub fn hm_reply(number: u32, room: *mut u8, room_length: u64, length: &mut u32) -> u32;
     /// Where the reading of a message stopped; [`secs_at`] is the same with a slice.
     pub fn hm_secs_at(message: *const u8, length: u64) -> u64;
     /// One input; [`step`] is the same with slices.
@@ -143,6 +141,52 @@ pub unsafe fn secs_step(
 ) -> u32 {
     // SAFETY: as for `step`.
     unsafe { hm_secs_step(tool, reports, message.as_ptr(), message.len() as u64, items) }
+}
+
+/// A message, read and then stepped, and its reply: the answer; tool, reports, the count of items, the room and the
+/// reply's length are written in place.
+///
+/// # Safety
+/// [`sizes_agree`].
+#[inline(always)]
+pub unsafe fn secs_exchange(
+    tool: &mut [u8; TOOL_BYTES],
+    reports: &mut [u8; REPORTS_BYTES],
+    message: &[u8],
+    items: &mut u32,
+    room: &mut [u8],
+    length: &mut u32,
+) -> u32 {
+    let (message_length, room_length) = (message.len() as u64, room.len() as u64);
+    // SAFETY: as for `step`; the archive writes no further into the room than its length.
+    unsafe {
+        hm_secs_exchange(
+            tool,
+            reports,
+            message.as_ptr(),
+            message_length,
+            items,
+            room.as_mut_ptr(),
+            room_length,
+            length,
+        )
+    }
+}
+
+/// The text of S3F18 for an answer, at the room's start: 0, or 14 where it is longer than the room. The length is that
+/// of the text, 0 with 14; nothing else of the room is written.
+///
+/// ```
+/// use hawsermole::raw::reply;
+///
+/// let (mut room, mut length) = ([9; 8], 9);
+/// assert_eq!((reply(0, &mut room, &mut length), room, length), (0, [1, 2, 0xA5, 1, 0, 1, 0, 9], 7));
+/// assert_eq!((reply(1, &mut room, &mut length), room, length), (14, [1, 2, 0xA5, 1, 0, 1, 0, 9], 0));
+/// ```
+pub fn reply(number: u32, room: &mut [u8], length: &mut u32) -> u32 {
+    // SAFETY: a slice's pointer is never null, and the archive writes no further than its length; room and length are
+    // lent to it, apart from each other.
+    unsafe { hm_reply(number, room.as_mut_ptr(), room.len() as u64, length) }
 }
 
 /// Where the reading of a message stopped: where the item begins that was refused with 20 to 24, the first byte left

@@ -2,7 +2,8 @@
 use core::fmt;
 
 /// Why an input was refused: document 01's eight reasons, of which the lowest that applies is given; or why a message
-/// was, by request P3: the first that its reading meets, and the lowest at one item.
+/// was, by request P3: the first that its reading meets, and the lowest at one item; or that a reply had no room, by
+/// request P13.
 ///
 /// ```
 /// use hawsermole::{Input, Refusal, Tool};
@@ -34,6 +35,8 @@ pub enum Refusal {
     NotVerified = 7,
     /// 8: the buffer place is taken, or the opener is in use.
     PlaceOrOpenerTaken = 8,
+    /// 14: the reply is longer than the room lent for it. Nothing was written, and the tool got no input.
+    RoomTooSmall = 14,
     /// 20: the message ends inside an item, or before one that a list counts.
     CutShort = 20,
     /// 21: a format code that isn't one of the fourteen; JIS-8 too.
@@ -51,8 +54,8 @@ pub enum Refusal {
 }
 
 impl Refusal {
-    /// All fifteen, by number.
-    pub const ALL: [Refusal; 15] = [
+    /// All sixteen, by number.
+    pub const ALL: [Refusal; 16] = [
         Refusal::OutOfRange,
         Refusal::NoRecord,
         Refusal::NameTaken,
@@ -61,6 +64,7 @@ impl Refusal {
         Refusal::ExpectedFull,
         Refusal::NotVerified,
         Refusal::PlaceOrOpenerTaken,
+        Refusal::RoomTooSmall,
         Refusal::CutShort,
         Refusal::UnknownCode,
         Refusal::BadLength,
@@ -70,7 +74,7 @@ impl Refusal {
         Refusal::ShapeOrAction,
     ];
 
-    /// The documents' number: 1 to 8, and 20 to 26 for a message.
+    /// The documents' number: 1 to 8, 14 for a reply, and 20 to 26 for a message.
     pub const fn number(self) -> u8 {
         self as u8
     }
@@ -114,6 +118,7 @@ impl Refusal {
             Refusal::ExpectedFull => "16 carriers are expected already",
             Refusal::NotVerified => "not verified",
             Refusal::PlaceOrOpenerTaken => "the buffer place is taken, or the opener is in use",
+            Refusal::RoomTooSmall => "the room lent is too small",
             Refusal::CutShort => "the message is cut short",
             Refusal::UnknownCode => "unknown format code",
             Refusal::BadLength => "no length byte, or a length no multiple of the element size",
@@ -133,6 +138,14 @@ impl fmt::Display for Refusal {
 
 impl core::error::Error for Refusal {}
 
+/// The proved functions answer 0, or the number of a refusal, and nothing else.
+pub(crate) fn refused(answer: u32) -> Result<(), Refusal> {
+    match answer {
+        0 => Ok(()),
+        _ => Err(Refusal::from_number(answer).expect("every answer but 0 is a refusal's number")),
+    }
+}
+
 #[cfg(test)]
 mod tests {
     use super::*;
@@ -140,12 +153,12 @@ mod tests {
 
     #[test]
     fn numbers_go_both_ways() {
-        for (number, refusal) in (1..=8).chain(20..=26).zip(Refusal::ALL) {
+        for (number, refusal) in (1..=8).chain([14]).chain(20..=26).zip(Refusal::ALL) {
             assert_eq!(refusal.number(), number);
-            assert_eq!(refusal.is_of_message(), number > 8);
+            assert_eq!(refusal.is_of_message(), number > 14);
             assert_eq!(Refusal::from_number(u32::from(refusal.number())), Some(refusal));
         }
-        for odd in [0, 9, 19, 27, 255, 256, 257, 276, u32::MAX] {
+        for odd in [0, 9, 13, 15, 19, 27, 255, 256, 257, 276, u32::MAX] {
             assert_eq!(Refusal::from_number(odd), None);
         }
     }
@@ -155,6 +168,7 @@ mod tests {
         assert_eq!(Refusal::NotVerified.to_string(), "not verified");
         assert_eq!(Refusal::ExpectedFull.to_string(), "16 carriers are expected already");
         assert_eq!(Refusal::BytesLeftOver.to_string(), "bytes left over");
+        assert_eq!(Refusal::RoomTooSmall.to_string(), "the room lent is too small");
         assert!(Refusal::OutOfRange.to_string().ends_with("or the state isn't sound"));
     }
 }

@@ -3,7 +3,8 @@ use crate::input::{Input, Parts};
 use crate::machine;
 use crate::name::{Name, NAME_BYTES};
 use crate::raw::{CARRIER_BYTES, REPORTS_BYTES, TOOL_BYTES};
-use crate::refusal::Refusal;
+use crate::refusal::{refused, Refusal};
+use crate::reply::Exchanged;
 use crate::report::Reports;
 use crate::waiting::{waiting, Waiting};
 use core::fmt;
@@ -144,6 +145,39 @@ impl Tool {
         Bridged { answer: refused(answer).map(|()| Reports::new(reports)), items }
     }
 
+    /// The bridge's whole way: the text of an S3F17 in, the text of an S3F18 out. Answer and tool are those of
+    /// [`secs_step`](Tool::secs_step), and the reply to that answer stands at the room's start. Where the reply is longer
+    /// than the room it is [`Refusal::RoomTooSmall`]: the tool got no input, the room is as it was, and the same message
+    /// may be sent again with more room. [`REPLY_ROOM`](crate::REPLY_ROOM) bytes are always enough.
+    ///
+    /// ```
+    /// use hawsermole::{Refusal, Tool, REPLY_ROOM};
+    ///
+    /// let mut tool = Tool::setup(1, 0).unwrap();
+    /// let message = b"\x01\x05\xA5\x01\x07\x41\x04Bind\x41\x02AB\xA5\x01\x01\x01\x00";
+    /// let mut room = [0; REPLY_ROOM];
+    ///
+    /// // Six bytes are one too few for any reply: the port isn't bound.
+    /// let small = tool.secs_exchange(message, &mut room[..6]);
+    /// assert_eq!((small.answer, small.items, small.reply), (Err(Refusal::RoomTooSmall), 6, &b""[..]));
+    ///
+    /// // Accepted: a list of U1 0 and an empty list.
+    /// let bound = tool.secs_exchange(message, &mut room);
+    /// assert_eq!((bound.answer.unwrap().len(), bound.reply), (5, &b"\x01\x02\xA5\x01\x00\x01\x00"[..]));
+    ///
+    /// // Refused: U1 5, and one pair of U2 3 and a text.
+    /// let again = tool.secs_exchange(message, &mut room);
+    /// assert_eq!(again.answer, Err(Refusal::NameTaken));
+    /// assert_eq!(again.reply[..13], *b"\x01\x02\xA5\x01\x05\x01\x01\x01\x02\xA9\x02\x00\x03");
+    /// assert_eq!(again.reply[13..], *b"\x41\x2DObject identifier in use, Duplicate CarrierID");
+    /// ```
+    pub fn secs_exchange<'room>(&mut self, message: &[u8], room: &'room mut [u8]) -> Exchanged<'room> {
+        let mut reports = [0; REPORTS_BYTES];
+        let (answer, items, length) = machine::secs_exchange(&mut self.bytes, &mut reports, message, room);
+        let answer = refused(answer).map(|()| Reports::new(reports));
+        Exchanged { answer, items, reply: &room[..length as usize] }
+    }
+
     /// Whether every field is in its range and all of document 01's conditions on a state hold.
     /// A tool from a set-up is sound, and every input leaves it so.
     pub fn is_sound(&self) -> bool {
@@ -268,14 +302,6 @@ pub struct Bridged {
     pub answer: Result<Reports, Refusal>,
     /// How many items have begun that met none of 20 to 24: at most [`SECS_ITEMS`].
     pub items: u32,
-}
-
-/// The proved machine answers 0 to 8, or 20 to 26 to a message, and nothing else.
-fn refused(answer: u32) -> Result<(), Refusal> {
-    match answer {
-        0 => Ok(()),
-        _ => Err(Refusal::from_number(answer).expect("the machine answers 0 to 8 or 20 to 26")),
-    }
 }
 
 /// A port as the tool holds it. The numbers are document 01's; [`states`](crate::states) has them as enums, with E87's
