@@ -1,5 +1,6 @@
 //! The items of a message as they lie in it, for people to read. How many there are and where reading stopped is the
 //! archive's to say; nothing is judged here.
+use crate::values::cut;
 use std::fmt;
 
 pub const LIST: u8 = 0o00;
@@ -91,6 +92,11 @@ pub fn items(message: &[u8], count: u32) -> Vec<Item<'_>> {
 }
 
 impl Item<'_> {
+    /// Its line in the tree: the byte at which it begins, and itself, further in for each list it stands in.
+    pub fn line(&self) -> String {
+        format!("  {:>5}  {}{}", self.at, "  ".repeat(self.depth), cut(&self.to_string()))
+    }
+
     /// A number or boolean item whose values aren't one.
     pub fn holds_other_than_one(&self) -> bool {
         let (_, size) = format(self.code).expect("a code that was read");

@@ -13,6 +13,7 @@ mod options;
 mod people;
 mod player;
 mod print;
+mod reply;
 mod run;
 #[cfg(test)]
 mod runs;

@@ -1,7 +1,6 @@
 //! What a message says and why it was refused: indented lines below the `secs` line.
 use crate::items::{format, head, items, Item, ASCII, LIST, U1};
 use crate::script::Sent;
-use crate::values::cut;
 use hawsermole::{secs_at, Argument, Refusal, Row, ROWS, SECS_DEPTH, SECS_ITEMS, SLOTS};
 
 const PARTS: [&str; 5] = ["data id", "action", "carrier name", "port", "attributes"];
@@ -10,9 +9,7 @@ const ACTIONS: [&str; 4] = ["Bind", "CarrierNotification", "ProceedWithCarrier",
 /// The tree of items with the byte at which each begins, and for a refusal of the reader the byte where it was met.
 pub fn read(message: &[u8], count: u32, refusal: Option<Refusal>) -> String {
     let read = items(message, count);
-    let tree =
-        |item: &Item| format!("  {:>5}  {}{}\n", item.at, "  ".repeat(item.depth), cut(&item.to_string()));
-    let mut lines: String = read.iter().map(tree).collect();
+    let mut lines: String = read.iter().map(|item| item.line() + "\n").collect();
     if let Some(refusal) = refusal {
         let (at, why) = met(message, &read, refusal);
         lines += &format!("  refused, {}: {refusal}\n  at byte {at}: {why}\n", refusal.number());

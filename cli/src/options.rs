@@ -85,7 +85,7 @@ Plays a script of SEMI E87 inputs on the proved machine, line by line as it come
 standard input (no FILE, or -).
 
   --explain     adds lines in E87's words to each answer and report, the cause of a refusal and what to
-                do, the name used for a padded one, and the items of a message
+                do, the name used for a padded one, and the items of a message and of a reply
   --keep-going  tells of a line that can't be carried out and goes on, as at a terminal
   --check       ends with status 1 unless every line that expect names was printed
   --help, -h    prints this
@@ -97,6 +97,8 @@ begins with #, prints nothing.
   setup P B                         a tool of P ports (1 to 4) and B buffer places (0 to 16)
   in NUMBER PORT VALUE NAME CODES   an input by number; NAME and CODES in hex, - for none
   secs HEX                          a message from the host bridge: the text of an S3F17 in hex
+  exchange HEX ROOM                 the same, and its reply, the text of an S3F18, in ROOM bytes of room
+  reply NUMBER ROOM                 the reply to an answer, which may be any number
   dump                              the whole state, for programs
   state                             the same, for people
   waiting                           the first carrier that waits for the host
@@ -121,6 +123,10 @@ in prints      ANSWER COUNT [MODEL SUBJECT OLD NEW; ..]   with names in hex
 a name prints  ANSWER  MODEL SUBJECT OLD>NEW; ..          or none
 secs prints    secs REFUSAL ITEMS   REFUSAL is 0, or 20 to 26 and the tool got no input;
                where it is 0, the answer of its input follows as in prints it
+exchange prints exchange ANSWER ITEMS REPLY   REPLY in hex; where the tool got an input, its answer
+               follows as in prints it; ANSWER 14 and REPLY - where the reply is longer than ROOM (0 to
+               65536), and the tool got no input
+reply prints   reply 0 REPLY, or reply 14 -
 dump prints    port I TRANSFER ACCESS RESERVED TIE MOVEMENT POD TAG
                rec NAME PLACE SPOT PORT OPEN CANCELLED CAME-OUT CODES ID SLOT ACCESSING
                map NAME CODES   for each record with an expected map

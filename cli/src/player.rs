@@ -1,8 +1,8 @@
 //! The player: the tool, and what each command prints.
 use crate::print::{self, Answer};
 use crate::script::{Command, Sent};
-use crate::{explain, message, people};
-use hawsermole::{Bridged, Tool};
+use crate::{explain, message, people, reply};
+use hawsermole::{Bridged, Exchanged, Refusal, Tool};
 
 /// A tool that is played on; at first there is none.
 pub struct Player {
@@ -36,6 +36,8 @@ impl Player {
             Command::In(sent) => self.input(sent, print::numbered),
             Command::Named(sent) => self.input(sent, print::named),
             Command::Secs(message) => self.secs(message),
+            Command::Exchange { message, room } => self.exchange(message, *room),
+            Command::Reply { number, room } => self.reply(*number, *room),
             Command::Dump => print::dump(&self.tool),
             Command::State => people::state(&self.tool),
             Command::Waiting => self.waiting(),
@@ -90,13 +92,47 @@ impl Player {
         if self.explain {
             printed += &message::read(bytes, items, refusal);
         }
-        if refusal.is_none() {
-            printed += &print::numbered(&answer);
+        printed + &self.stepped(bytes, items, &answer)
+    }
+
+    /// The same with its reply, which stands on the first line.
+    fn exchange(&mut self, bytes: &[u8], room: usize) -> String {
+        let (before, mut lent) = (self.tool.clone(), vec![0; room]);
+        let Exchanged { answer, items, reply } = self.tool.secs_exchange(bytes, &mut lent);
+        let mut printed = print::exchange(&answer, items, reply);
+        if self.explain {
+            let refusal = answer.as_ref().err().copied().filter(|refusal| refusal.is_of_message());
+            printed += &message::read(bytes, items, refusal);
+            printed += &match answer {
+                Err(Refusal::RoomTooSmall) => reply::not_exchanged(before, bytes, room),
+                _ => reply::read(reply),
+            };
         }
-        if self.explain && refusal.is_none() {
-            printed += &explain::answer(&self.tool, &message::asked(bytes, items).parts(), &answer);
+        printed + &self.stepped(bytes, items, &answer)
+    }
+
+    /// The answer of the input that a message asked for; nothing where the tool got none.
+    fn stepped(&self, bytes: &[u8], items: u32, answer: &Answer) -> String {
+        if answer.as_ref().is_err_and(|refusal| refusal.is_of_message() || *refusal == Refusal::RoomTooSmall)
+        {
+            return String::new();
         }
-        printed
+        let printed = print::numbered(answer);
+        match self.explain {
+            true => printed + &explain::answer(&self.tool, &message::asked(bytes, items).parts(), answer),
+            false => printed,
+        }
+    }
+
+    fn reply(&self, number: u32, room: usize) -> String {
+        let mut lent = vec![0; room];
+        let written = hawsermole::reply(number, &mut lent);
+        let printed = print::reply(written);
+        match (self.explain, written) {
+            (true, Ok(text)) => printed + &reply::read(text),
+            (true, Err(_)) => printed + &reply::not_written(number, room),
+            (false, _) => printed,
+        }
     }
 }
 
@@ -130,9 +166,8 @@ mod tests {
     #[test]
     fn messages_are_read_and_then_stepped() {
         let lines = [BIND, "secs -", "setup 1 0", BIND, BIND, "secs 0105"];
-        let bound = "0 5 [3 1 0 1; 4 1 0 1; 5 4142 0 1; 6 4142 0 1; 7 4142 0 1]";
         let expected =
-            format!("secs 0 6\n1 0 []\nsecs 20 0\nsetup 0\nsecs 0 6\n{bound}\nsecs 0 6\n3 0 []\nsecs 20 1\n");
+            format!("secs 0 6\n1 0 []\nsecs 20 0\nsetup 0\nsecs 0 6\n{BOUND}\nsecs 0 6\n3 0 []\nsecs 20 1\n");
         assert_eq!(played(false, &lines), expected);
     }
 
@@ -148,6 +183,32 @@ mod tests {
         assert!(explained.ends_with(
             "  at byte 2: the message ends where an item should begin\n  the tool gets no input\n"
         ));
+    }
+
+    const BOUND: &str = "0 5 [3 1 0 1; 4 1 0 1; 5 4142 0 1; 6 4142 0 1; 7 4142 0 1]";
+
+    /// Where the room is too small, the tool gets no input, and the same message is accepted afterwards.
+    #[test]
+    fn exchanges_are_messages_with_their_reply() {
+        let bind = BIND.replace("secs", "exchange");
+        let lines =
+            ["setup 1 0", &format!("{bind} 6"), &format!("{bind} 7"), "exchange 0105 31", "exchange 0105 32"];
+        let cut = "0102a5010301010102a902001441114d657373616765206375742073686f7274";
+        let expected = format!(
+            "setup 0\nexchange 14 6 -\nexchange 0 6 0102a501000100\n{BOUND}\nexchange 14 1 -\nexchange 20 1 {cut}\n"
+        );
+        assert_eq!(played(false, &lines), expected);
+        let explained = played(true, &lines);
+        let plain: Vec<&str> = explained.lines().filter(|line| !line.starts_with("  ")).collect();
+        assert_eq!(plain.join("\n") + "\n", expected);
+    }
+
+    #[test]
+    fn replies_to_any_number() {
+        let lines = ["reply 0 7", "reply 0 6", "reply 4294967295 30", "reply 4294967295 29"];
+        let unknown = "0102a5010501010102a902ffff410f556e6b6e6f776e207265667573616c";
+        let expected = format!("reply 0 0102a501000100\nreply 14 -\nreply 0 {unknown}\nreply 14 -\n");
+        assert_eq!(played(false, &lines), expected);
     }
 
     #[test]

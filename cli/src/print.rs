@@ -35,6 +35,19 @@ pub fn named(given: &Answer) -> String {
     format!("{}  {}\n", answer(given), reports(given))
 }
 
+/// `exchange 0 6 0102a501000100`: the answer, the items of the message and the reply in hex, `-` with 14.
+pub fn exchange(given: &Answer, items: u32, reply: &[u8]) -> String {
+    format!("exchange {} {items} {}\n", answer(given), hex(reply))
+}
+
+/// `reply 0 0102a501000100`, or `reply 14 -`.
+pub fn reply(written: Result<&[u8], Refusal>) -> String {
+    match written {
+        Ok(text) => format!("reply 0 {}\n", hex(text)),
+        Err(refusal) => format!("reply {} -\n", refusal.number()),
+    }
+}
+
 /// `waiting 3 4`, or `waiting none 5`: the first that waits, and how many records were read.
 pub fn waiting(Waiting { first, read }: Waiting) -> String {
     let first = first.map_or("none".into(), |position| position.to_string());

@@ -20,6 +20,16 @@ pub enum Command {
     Named(Sent),
     /// A message from the host bridge.
     Secs(Vec<u8>),
+    /// A message, and room for its reply.
+    Exchange {
+        message: Vec<u8>,
+        room: usize,
+    },
+    /// The reply to an answer.
+    Reply {
+        number: u32,
+        room: usize,
+    },
     Dump,
     State,
     /// Is anyone waiting?
@@ -49,9 +59,13 @@ impl Sent {
     }
 }
 
+const COMMANDS: [&str; 12] =
+    ["setup", "in", "secs", "exchange", "reply", "dump", "state", "waiting", "save", "load", "undo", "expect"];
 const SETUP: &str = "setup P B";
 const IN: &str = "in NUMBER PORT VALUE NAME CODES";
 const SECS: &str = "secs HEX";
+const EXCHANGE: &str = "exchange HEX ROOM";
+const REPLY: &str = "reply NUMBER ROOM";
 const DUMP: &str = "dump";
 const STATE: &str = "state";
 const WAITING: &str = "waiting";
@@ -69,6 +83,8 @@ pub fn read(line: &[u8]) -> Result<Command, String> {
         Some(b"setup") => read_setup(words),
         Some(b"in") => read_in(words),
         Some(b"secs") => read_secs(words),
+        Some(b"exchange") => read_exchange(words),
+        Some(b"reply") => read_reply(words),
         Some(b"dump") => words.end(DUMP).map(|()| Command::Dump),
         Some(b"state") => words.end(STATE).map(|()| Command::State),
         Some(b"waiting") => words.end(WAITING).map(|()| Command::Waiting),
@@ -118,6 +134,20 @@ fn read_expect(mut words: Words) -> Result<Command, String> {
     Ok(Command::Expect(every.map(|word| String::from_utf8_lossy(word).into()).collect()))
 }
 
+fn read_exchange(mut words: Words) -> Result<Command, String> {
+    let message = values::hex("message", words.argument("message", EXCHANGE)?)?;
+    let room = values::room("room", words.argument("room", EXCHANGE)?)?;
+    words.end(EXCHANGE)?;
+    Ok(Command::Exchange { message, room })
+}
+
+fn read_reply(mut words: Words) -> Result<Command, String> {
+    let number = values::number("number", words.argument("number", REPLY)?)?;
+    let room = values::room("room", words.argument("room", REPLY)?)?;
+    words.end(REPLY)?;
+    Ok(Command::Reply { number, room })
+}
+
 fn read_named(first: &[u8], mut words: Words) -> Result<Command, String> {
     let row = ROWS.iter().find(|row| row.name.as_bytes() == first).ok_or_else(|| unknown(first))?;
     let usage = usage(row);
@@ -156,8 +186,7 @@ pub fn usage(row: &Row) -> String {
 }
 
 fn unknown(word: &[u8]) -> String {
-    let commands = ["setup", "in", "secs", "dump", "state", "waiting", "save", "load", "undo", "expect"];
-    let mut known = commands.into_iter().chain(ROWS.iter().map(|row| row.name));
+    let mut known = COMMANDS.into_iter().chain(ROWS.iter().map(|row| row.name));
     match known.find(|known| known.as_bytes().eq_ignore_ascii_case(word)) {
         Some(near) => format!("unknown word '{}': it is written {near}", shown(word)),
         None => format!(
@@ -206,6 +235,9 @@ mod tests {
         assert_eq!(read(b"expect 0  none\n"), Ok(Command::Expect(vec!["0".into(), "none".into()])));
         assert_eq!(read(b"secs 0100"), Ok(Command::Secs(vec![1, 0])));
         assert_eq!(read(b"secs -"), Ok(Command::Secs(vec![])));
+        assert_eq!(read(b"exchange 0100 95"), Ok(Command::Exchange { message: vec![1, 0], room: 95 }));
+        assert_eq!(read(b"exchange - 65536"), Ok(Command::Exchange { message: vec![], room: 65_536 }));
+        assert_eq!(read(b"reply 4294967295 0"), Ok(Command::Reply { number: u32::MAX, room: 0 }));
         assert_eq!(read(b"in 20 1 2 4142 0305"), Ok(Command::In(sent(20, 1, 2, b"AB", &[3, 5]))));
         assert_eq!(read(b"in 4294967295 0 0 - -"), Ok(Command::In(sent(u32::MAX, 0, 0, b"", b""))));
     }
@@ -272,6 +304,8 @@ mod tests {
         assert_eq!(error("secs"), "message missing: expected secs HEX");
         assert_eq!(error("save"), "file missing: expected save FILE");
         assert_eq!(error("expect"), "word missing: expected expect WORD..");
+        assert_eq!(error("exchange 01"), "room missing: expected exchange HEX ROOM");
+        assert_eq!(error("reply 1"), "room missing: expected reply NUMBER ROOM");
         assert_eq!(error("setup 1"), "number of buffer places missing: expected setup P B");
         assert_eq!(error("in 1 1 0 4142"), "codes missing: expected in NUMBER PORT VALUE NAME CODES");
     }
@@ -281,6 +315,8 @@ mod tests {
         assert_eq!(error("Open AB # now"), "'#' is one word too many: expected Open NAME");
         assert_eq!(error("Bind 1 AB - -"), "'-' is one word too many: expected Bind PORT NAME [MAP]");
         assert_eq!(error("secs 01 00"), "'00' is one word too many: expected secs HEX");
+        assert_eq!(error("exchange 01 9 9"), "'9' is one word too many: expected exchange HEX ROOM");
+        assert_eq!(error("reply 1 9 9"), "'9' is one word too many: expected reply NUMBER ROOM");
         assert_eq!(error("dump 1"), "'1' is one word too many: expected dump");
         assert_eq!(error("waiting 1"), "'1' is one word too many: expected waiting");
         assert_eq!(error("load a b"), "'b' is one word too many: expected load FILE");
@@ -299,6 +335,8 @@ mod tests {
         assert_eq!(error("ChangeAccess 1 AUTO"), "access: 'AUTO' is not a number from 0 to 4294967295");
         assert_eq!(error("in 1 1 0 AB1 -"), "name: 'AB1' is not pairs of hex digits, or - for none");
         assert_eq!(error("secs 010"), "message: '010' is not pairs of hex digits, or - for none");
+        assert_eq!(error("reply -1 9"), "number: '-1' is not a number from 0 to 4294967295");
+        assert_eq!(error("reply 1 65537"), "room: '65537' is not a number from 0 to 65536");
         assert!(error("SlotMap AB 333").starts_with("codes: '333' is not 25 digits, one for each slot, or"));
         assert!(error("Bind 1 AB 333").starts_with("map: '333' is not 25 digits, one for each slot, or"));
     }

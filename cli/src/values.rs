@@ -1,6 +1,8 @@
 //! Words of a line and what they stand for: numbers, names, codes. Nothing is cut and nothing is guessed.
 
 const NUMBER: &str = "a number from 0 to 4294967295";
+/// The most bytes of room that a line can ask for.
+const ROOM_MOST: u32 = 65_536;
 const HEX: &str = "pairs of hex digits, or - for none";
 /// No name, no codes.
 pub const NONE: &[u8] = b"-";
@@ -84,6 +86,14 @@ pub fn number(what: &str, word: &[u8]) -> Result<u32, String> {
     text.and_then(|text| text.parse().ok()).ok_or_else(|| wrong(what, word, NUMBER))
 }
 
+/// How many bytes of room to lend.
+pub fn room(what: &str, word: &[u8]) -> Result<usize, String> {
+    let bytes = number(what, word).ok().filter(|&bytes| bytes <= ROOM_MOST);
+    bytes
+        .map(|bytes| bytes as usize)
+        .ok_or_else(|| wrong(what, word, &format!("a number from 0 to {ROOM_MOST}")))
+}
+
 /// Bytes in hex, `-` for none.
 pub fn hex(what: &str, word: &[u8]) -> Result<Vec<u8>, String> {
     hex_bytes(word).ok_or_else(|| wrong(what, word, HEX))
@@ -160,6 +170,15 @@ mod tests {
             assert_eq!(number("n", odd.as_bytes()), Err(message));
         }
         assert_eq!(number("n", b"\xff"), Err("n: '\\xff' is not a number from 0 to 4294967295".into()));
+    }
+
+    #[test]
+    fn rooms_have_a_limit() {
+        assert_eq!((room("room", b"0"), room("room", b"65536")), (Ok(0), Ok(65_536)));
+        for odd in ["65537", "4294967296", "-1", "ten", ""] {
+            let message = format!("room: '{odd}' is not a number from 0 to 65536");
+            assert_eq!(room("room", odd.as_bytes()), Err(message));
+        }
     }
 
     #[test]

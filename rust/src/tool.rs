@@ -146,9 +146,9 @@ impl Tool {
     }
 
     /// The bridge's whole way: the text of an S3F17 in, the text of an S3F18 out. Answer and tool are those of
-    /// [`secs_step`](Tool::secs_step), and the reply to that answer stands at the room's start. Where the reply is longer
-    /// than the room it is [`Refusal::RoomTooSmall`]: the tool got no input, the room is as it was, and the same message
-    /// may be sent again with more room. [`REPLY_ROOM`](crate::REPLY_ROOM) bytes are always enough.
+    /// [`secs_step`](Tool::secs_step), and the reply to that answer stands at the room's start. Where the reply is
+    /// longer than the room it is [`Refusal::RoomTooSmall`]: the tool got no input, the room is as it was, and the same
+    /// message may be sent again with more room. [`REPLY_ROOM`](crate::REPLY_ROOM) bytes are always enough.
     ///
     /// ```
     /// use hawsermole::{Refusal, Tool, REPLY_ROOM};
