@@ -1,6 +1,7 @@
 /*
- * A host bridge on Hawsermole: the host's S3F17 comes as the text of the message, the sensors' inputs come as they are.
- * A message is read where it stands; what it asks for is stepped. No heap.
+ * A host bridge on Hawsermole: the host's S3F17 comes as the text of the message and its answer, S3F18, goes out as
+ * one; the sensors' inputs come as they are. A message is read where it stands; what it asks for is stepped, and the
+ * reply is written into room that the bridge lends. No heap.
  */
 #include <stdio.h>
 #include <string.h>
@@ -68,12 +69,48 @@ static void tell(uint32_t number)
     }
 }
 
-/* The text of an S3F17, without the ten bytes of HSMS header before it. */
-static void from_host(const char *what, const uint8_t *text, uint64_t length)
+/* Some bytes of a reply and what they are, with a number. */
+static void part(const uint8_t *bytes, unsigned count, const char *what, unsigned number)
 {
-    uint32_t items;
-    uint32_t answer = hm_secs_step(&tool, &reports, text, length, &items);
+    unsigned i;
+    printf("      ");
+    for (i = 0; i < 4; i++) {
+        if (i < count) {
+            printf("%02x ", bytes[i]);
+        } else {
+            printf("   ");
+        }
+    }
+    printf(" %s %u\n", what, number);
+}
 
+/* A real bridge sends the text to the host here, after a header of its own. */
+static void to_host(const uint8_t *reply, uint32_t length)
+{
+    printf("    S3F18, %u bytes:\n", (unsigned)length);
+    part(reply, 2, "list of", reply[1]);
+    part(reply + 2, 3, "acknowledge, U1", reply[4]);
+    part(reply + 5, 2, "errors, list of", reply[6]);
+    if (reply[6] != 0) {
+        part(reply + 7, 2, "error, list of", reply[8]);
+        part(reply + 9, 4, "error code, U2", (unsigned)(reply[11] << 8 | reply[12]));
+        part(reply + 13, 2, "error text, ASCII of", reply[14]);
+        printf("      %.*s\n", (int)reply[14], (const char *)reply + 15);
+    }
+}
+
+/* The text of an S3F17, without the ten bytes of HSMS header before it; so much room is lent for the reply. */
+static void from_host(const char *what, const uint8_t *text, uint64_t length, uint64_t lent)
+{
+    uint8_t room[HM_REPLY_ROOM];
+    uint32_t items, reply_length;
+    uint32_t answer = hm_secs_exchange(&tool, &reports, text, length, &items, room, lent, &reply_length);
+
+    if (answer == HM_REFUSED_ROOM_TOO_SMALL) {
+        /* No input was given, and nothing was written: lend more, and send the same message again. */
+        printf("%s: the reply doesn't fit into %u bytes\n", what, (unsigned)lent);
+        return;
+    }
     if (answer >= HM_REFUSED_CUT_SHORT) {
         /* No input was given: the tool is as it was. The place is for the log. */
         printf("%s: %u, %s, after %u items, at byte %u\n", what, (unsigned)answer,
@@ -84,6 +121,7 @@ static void from_host(const char *what, const uint8_t *text, uint64_t length)
         printf("%s: %u items read, accepted\n", what, (unsigned)items);
         tell(0);
     }
+    to_host(room, reply_length);
 }
 
 static void from_tool(const char *what, uint32_t number, uint32_t port, const char *name, const uint8_t *codes,
@@ -113,16 +151,17 @@ int main(void)
         return 1;
     }
 
-    from_host("S3F17 Bind FOUP-7 with SlotMap", bind_7, sizeof bind_7);
+    from_host("S3F17 Bind FOUP-7 with SlotMap", bind_7, sizeof bind_7, HM_REPLY_ROOM);
     arrives("IdRead FOUP-7", 1, "FOUP-7");
     from_tool("Open FOUP-7", HM_INPUT_OPEN, 0, "FOUP-7", HM_NOTHING, 0);
     from_tool("SlotMap, as expected", HM_INPUT_SLOT_MAP, 0, "FOUP-7", wafers, sizeof wafers);
 
-    from_host("S3F17 Bind FOUP-8, cut", bind_8, sizeof bind_8 - 3);
-    from_host("S3F17 Bind FOUP-8", bind_8, sizeof bind_8);
-    from_host("S3F17 Bind FOUP-8 again", bind_8, sizeof bind_8);
+    from_host("S3F17 Bind FOUP-8, cut", bind_8, sizeof bind_8 - 3, HM_REPLY_ROOM);
+    from_host("S3F17 Bind FOUP-8, no room", bind_8, sizeof bind_8, 6);
+    from_host("S3F17 Bind FOUP-8", bind_8, sizeof bind_8, HM_REPLY_ROOM);
+    from_host("S3F17 Bind FOUP-8 again", bind_8, sizeof bind_8, HM_REPLY_ROOM);
     arrives("IdRead of another pod", 2, "FOUP-9");
-    from_host("S3F17 ProceedWithCarrier FOUP-8", proceed_8, sizeof proceed_8);
-    from_host("S3F17 Unbind FOUP-8", unbind_8, sizeof unbind_8);
+    from_host("S3F17 ProceedWithCarrier FOUP-8", proceed_8, sizeof proceed_8, HM_REPLY_ROOM);
+    from_host("S3F17 Unbind FOUP-8", unbind_8, sizeof unbind_8, HM_REPLY_ROOM);
     return 0;
 }
