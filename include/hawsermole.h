@@ -48,8 +48,8 @@
 extern "C" {
 #endif
 
-/* The version of this header, 0x00MMmmpp: 0.6.0. hm_version is the archive's; compare the two once at start. */
-#define HM_VERSION 0x000600
+/* The version of this header, 0x00MMmmpp: 0.7.0. hm_version is the archive's; compare the two once at start. */
+#define HM_VERSION 0x000700
 
 /* Limits. */
 #define HM_PORTS 4                 /* a tool has 1 to 4 ports */
