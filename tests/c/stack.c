@@ -29,14 +29,18 @@ static struct painted for_name = {"hm_name", NULL, NULL};
 static struct painted for_waiting = {"hm_waiting", NULL, NULL};
 static struct painted for_secs_step = {"hm_secs_step", NULL, NULL};
 static struct painted for_secs_at = {"hm_secs_at", NULL, NULL};
+static struct painted for_exchange = {"hm_secs_exchange", NULL, NULL};
+static struct painted for_reply = {"hm_reply", NULL, NULL};
 
 static ucontext_t here, there;
 static hm_tool tool;
 static hm_reports reports;
 static struct input in;
 static struct message message;
-static uint32_t answer, items;
+static uint32_t answer, items, length;
+static uint8_t room[HM_REPLY_ROOM];
 static unsigned long accepted, refused, removed, removed_from_full, most_records, at_once, bridged, unread;
+static unsigned long replied;
 
 #include "full.h"
 
@@ -99,6 +103,18 @@ static void call_secs_at(void)
 {
     for_secs_at.frame = (const char *)__builtin_frame_address(0);
     items = (uint32_t)hm_secs_at(message.bytes, message.length);
+}
+
+static void call_exchange(void)
+{
+    for_exchange.frame = (const char *)__builtin_frame_address(0);
+    answer = hm_secs_exchange(&tool, &reports, message.bytes, message.length, &items, room, sizeof room, &length);
+}
+
+static void call_reply(void)
+{
+    for_reply.frame = (const char *)__builtin_frame_address(0);
+    answer = hm_reply(in.number, room, sizeof room, &length);
 }
 
 static void run_on(const struct painted *p, void (*call)(void))
@@ -172,6 +188,10 @@ static void secs_step(void)
             bridged += answer == HM_ACCEPTED;
             unread += answer == HM_REFUSED_TOO_DEEP;
             tool = before;
+            run_on(&for_exchange, call_exchange);
+            replied += answer == HM_ACCEPTED && length > 0;
+            run_on(&for_reply, call_reply);
+            tool = before;
         }
     }
 }
@@ -219,6 +239,8 @@ int main(int argc, char **argv)
     prepare(&for_waiting);
     prepare(&for_secs_step);
     prepare(&for_secs_at);
+    prepare(&for_exchange);
+    prepare(&for_reply);
     chance_state = 1;
     every_row_to_full_tools(&full);
     by_chance(&full, argc > 1 ? strtoul(argv[1], NULL, 10) : 50000);
@@ -229,11 +251,14 @@ int main(int argc, char **argv)
     failed += figure(&for_waiting);
     failed += figure(&for_secs_step);
     failed += figure(&for_secs_at);
+    failed += figure(&for_exchange);
+    failed += figure(&for_reply);
     printf("over %lu accepted and %lu refused inputs, %lu records removed, %lu of them from a full tool of %lu, ",
            accepted, refused, removed, removed_from_full, most_records);
-    printf("%lu slot maps OK at once, %lu messages accepted, %lu too deep\n", at_once, bridged, unread);
+    printf("%lu slot maps OK at once, %lu messages accepted, %lu too deep, %lu accepted with a reply\n", at_once,
+           bridged, unread, replied);
     if (accepted == 0 || refused == 0 || removed_from_full == 0 || most_records != HM_RECORDS || at_once == 0 ||
-        bridged == 0 || unread == 0) {
+        bridged == 0 || unread == 0 || replied != bridged) {
         fprintf(stderr, "too little was met for this to mean anything\n");
         failed++;
     }
