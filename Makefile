@@ -85,12 +85,13 @@ diagrams: library cross
 	cd diagrams && $(CARGO) run --offline --quiet --locked -- --events ..
 	cd diagrams && $(CARGO) run --offline --quiet --locked -- ../docs/diagrams
 
-# The pictures and the manual's quotes are what the programs give.
+# The pictures, the manual's quotes and the page of replies are what the programs give.
 pictures: target/hawsermole
 	cd diagrams && $(CARGO) test --offline --quiet --locked
 	cd diagrams && $(CARGO) run --offline --quiet --locked -- --check-events ..
 	cd diagrams && $(CARGO) run --offline --quiet --locked -- --check ../docs/diagrams
 	CC="$(CC)" EMULATOR="$(EMULATOR)" diagrams/quotes.sh target/hawsermole
+	diagrams/replies.sh target/hawsermole
 
 manual:
 	diagrams/print.sh

@@ -3,8 +3,8 @@ use hawsermole::{raw, reply, Refusal, Tool, REPLY_ROOM};
 
 const FILLED: u8 = 0x55;
 
-/// The reply to a number as SEMI E5 and the request have it, from its text.
-fn built(number: u32, text: &str) -> Vec<u8> {
+/// The reply to a number as SEMI E5 and the request have it, with these words.
+fn built(number: u32, words: &[u8]) -> Vec<u8> {
     let acknowledge = match number {
         0 => return vec![1, 2, 0xA5, 1, 0, 1, 0],
         1 | 20..=26 => 3,
@@ -12,38 +12,25 @@ fn built(number: u32, text: &str) -> Vec<u8> {
     };
     let code = number.min(65_535) as u16;
     let head = [1, 2, 0xA5, 1, acknowledge, 1, 1, 1, 2, 0xA9, 2];
-    [&head, &code.to_be_bytes()[..], &[0x41, text.len() as u8], text.as_bytes()].concat()
-}
-
-/// The lines of the page's table, by their numbers, and the text of all others.
-fn page() -> (Vec<(u32, String)>, String) {
-    let page = include_str!("../../docs/REPLIES.md");
-    let table = page.split("| Number | Text |\n|---|---|\n").nth(1).unwrap();
-    let lines = table.lines().take_while(|line| line.starts_with('|'));
-    let cells = lines.map(|line| line.trim_matches('|').split_once('|').unwrap());
-    let mut texts: Vec<(&str, &str)> = cells.map(|(number, text)| (number.trim(), text.trim())).collect();
-    let (other, text) = texts.pop().unwrap();
-    assert_eq!(other, "other");
-    (texts.iter().map(|(number, text)| (number.parse().unwrap(), text.to_string())).collect(), text.into())
+    [&head, &code.to_be_bytes()[..], &[0x41, words.len() as u8], words].concat()
 }
 
 fn text(number: u32) -> Vec<u8> {
     reply(number, &mut [0; REPLY_ROOM]).unwrap().to_vec()
 }
 
+/// What the words are is docs/REPLIES.md's to say, and `diagrams/replies.sh` holds them to it.
 #[test]
-fn every_number_of_the_page() {
-    let (lines, other) = page();
-    let numbers: Vec<u32> = lines.iter().map(|line| line.0).collect();
-    assert_eq!(numbers, (1..=14).chain(20..=29).collect::<Vec<u32>>());
-    for (number, words) in &lines {
-        assert!((1..=80).contains(&words.len()), "{words}");
-        assert_eq!(text(*number), built(*number, words), "{number}");
+fn replies_around_their_words() {
+    assert_eq!(text(0), built(0, b""));
+    for number in (1..=300).chain([65_534, 65_535, 65_536, 65_537, u32::MAX]) {
+        let text = text(number);
+        let words = &text[15..];
+        assert!((1..=80).contains(&words.len()) && words.is_ascii(), "{number}");
+        let own = matches!(number, 1..=14 | 20..=29);
+        assert_eq!(words != b"Unknown refusal", own, "{number}");
+        assert_eq!(text, built(number, words), "{number}");
     }
-    for number in [15, 19, 30, 255, 256, 257, 258, 65_534, 65_535, 65_536, 65_537, u32::MAX] {
-        assert_eq!(text(number), built(number, &other), "{number}");
-    }
-    assert_eq!(text(0), built(0, ""));
 }
 
 /// In a room of any length: the text and the bytes after it, or 14 and every byte as it was.
