@@ -26,13 +26,13 @@ impl Replier for Proved {
     fn reply(&self, number: u32, room: &mut [u8]) -> Written {
         let mut length = u32::MAX;
         // SAFETY: the room is lent with its length, and the length is a number of ours.
-        let answer = unsafe { raw::hm_reply(number, room.as_mut_ptr(), room.len(), &mut length) };
+        let answer = unsafe { raw::hm_reply(number, room.as_mut_ptr(), room.len() as u64, &mut length) };
         Written { answer, length: length as usize }
     }
 
     fn exchange(&self, tool: &mut Tool, message: &[u8], reports: &mut Reports, room: &mut [u8]) -> Exchanged {
-        let (text, size) = (message.as_ptr(), message.len());
-        let (to, most) = (room.as_mut_ptr(), room.len());
+        let (text, size) = (message.as_ptr(), message.len() as u64);
+        let (to, most) = (room.as_mut_ptr(), room.len() as u64);
         let (mut items, mut length) = (u32::MAX, u32::MAX);
         // SAFETY: the sizes agree; message and room are lent with their lengths.
         let answer = unsafe {
