@@ -122,7 +122,7 @@ fn a_byte_written_before_fourteen_is_found() {
             reply.room[0] = 0x01;
         }
     });
-    let said = "proved       14, length 7, the room 01\nindependent  14, length 7, the room as it was\n";
+    let said = "proved       14, length 0, the room 01\nindependent  14, length 0, the room as it was\n";
     assert_eq!(told, format!("DIFFERENT. The line\nreply 0 1\n{said}"));
 }
 
@@ -144,17 +144,17 @@ fn two_length_bytes_are_found() {
     let told = miswritten(|number, before, reply| {
         if number > 0 {
             let text = replied(&Worded(Texts::read(&page()).unwrap()), number, &[0; 200]).room;
-            let text = [&text[..13], &[0x42, 0], &text[14..reply.written.length]].concat();
+            let text = [&text[..13], &[0x42, 0], &text[14..15 + text[14] as usize]].concat();
             let (fits, mut room) = (text.len() <= before.len(), before.to_vec());
             if fits {
                 room[..text.len()].copy_from_slice(&text);
             }
-            let answer = if fits { 0 } else { 14 };
-            *reply = Reply { written: Written { answer, length: text.len() }, room };
+            let (answer, length) = if fits { (0, text.len()) } else { (14, 0) };
+            *reply = Reply { written: Written { answer, length }, room };
         }
     });
     assert!(
-        told.starts_with("DIFFERENT. The line\nreply 1 0\nproved       14, length 18, the room as it was\n"),
+        told.starts_with("DIFFERENT. The line\nreply 1 17\nproved       14, length 0, the room as it was\n"),
         "{told}"
     );
 }
@@ -162,7 +162,8 @@ fn two_length_bytes_are_found() {
 #[test]
 fn a_byte_past_the_text_is_found() {
     let told = miswritten(|_, _, reply| {
-        if let Some(past) = reply.room.get_mut(reply.written.length) {
+        let length = reply.written.length;
+        if let Some(past) = reply.room.get_mut(length).filter(|_| length > 0) {
             *past = 0;
         }
     });
@@ -173,7 +174,7 @@ fn a_byte_past_the_text_is_found() {
         "{told}"
     );
     let told = miswritten(|_, before, reply| {
-        if before.len() > reply.written.length + 2 {
+        if fits(reply) && before.len() > reply.written.length + 2 {
             *reply.room.last_mut().unwrap() = 0;
         }
     });
@@ -202,9 +203,9 @@ fn lost_bits_are_found() {
 }
 
 #[test]
-fn a_length_that_is_not_told_with_fourteen_is_found() {
-    let told = miswritten(|_, _, reply| reply.written.length *= fits(reply) as usize);
-    assert!(told.starts_with("DIFFERENT. The line\nreply 0 0\nproved       14, length 0, "), "{told}");
+fn a_length_that_is_told_with_fourteen_is_found() {
+    let told = miswritten(|_, _, reply| reply.written.length += 7 * !fits(reply) as usize);
+    assert!(told.starts_with("DIFFERENT. The line\nreply 0 0\nproved       14, length 7, "), "{told}");
 }
 
 /// The whole way: 14 that comes after the tool got its input, keeps the reports, loses the items or tells another
