@@ -38,6 +38,9 @@ static inline const char *hm_answer_text(uint32_t answer)
         "bytes left over",
         "another shape or action",
     };
+    if (answer == HM_REFUSED_ROOM_TOO_SMALL) {
+        return "the room lent is too small";
+    }
     return answer < HM_REFUSED_CUT_SHORT ? HM_WORD(of_tool, answer)
                                          : HM_WORD(of_message, answer - HM_REFUSED_CUT_SHORT);
 }

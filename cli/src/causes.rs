@@ -212,8 +212,9 @@ mod tests {
         let mut texts: Vec<&str> = Cause::ALL.iter().map(|cause| cause.text()).collect();
         texts.sort_unstable();
         assert!(texts.windows(2).all(|two| two[0] != two[1]));
-        assert!(Refusal::ALL.iter().all(|&refusal| {
-            refusal.is_of_message() || Cause::ALL.iter().any(|cause| cause.refusal() == refusal)
-        }));
+        // no row refuses for want of room
+        let of_a_row = |refusal: &Refusal| !refusal.is_of_message() && *refusal != Refusal::RoomTooSmall;
+        let caused = |&refusal: &Refusal| Cause::ALL.iter().any(|cause| cause.refusal() == refusal);
+        assert!(Refusal::ALL.iter().filter(|refusal| of_a_row(refusal)).all(caused));
     }
 }

@@ -19,6 +19,7 @@ fn first_thing(refusal: Refusal) -> &'static str {
             "pod stays closed: ProceedWithCarrier or CancelCarrier; cancelled or FAILED: unload"
         }
         Refusal::PlaceOrOpenerTaken => "MoveIn: another place. Open: close the one that is open",
+        Refusal::RoomTooSmall => "lend 95 bytes of room, and take the message again",
         Refusal::CutShort => "bytes lost, or a length that is too large",
         Refusal::UnknownCode => "JIS-8, or another text format",
         Refusal::BadLength => "a length that counts values and not bytes",
@@ -100,6 +101,6 @@ mod tests {
         ] {
             assert!(card.contains(part), "{part}\n{card}");
         }
-        assert_eq!(card.lines().filter(|line| line.starts_with("| ")).count(), 1 + 15 + 1 + 7);
+        assert_eq!(card.lines().filter(|line| line.starts_with("| ")).count(), 1 + 16 + 1 + 7);
     }
 }
