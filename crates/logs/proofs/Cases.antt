@@ -6,8 +6,8 @@ use Rattle.records.specs.Names.{isName, inBytes, sameName, headOr0, zeroEnded, 
 use Rattle.records.specs.Maps.{isMap, inMap}
 use Rattle.rules.specs.State.{portOf, recordOf, inTool, setUp}
 use Rattle.rules.specs.Sound.{portInRange, spotInRange, statusInRange, carrierInRange, inRange, otherName, tieKept, tieHeld}
-use Rattle.rules.specs.Sound.{tiesAgree, placeAgrees, otherSpot, fewExpected, portAgrees, openAgrees, sound, zeroPort, zeroCarrier, unusedZero}
-use Rattle.rules.specs.Sound.{soundTool}
+use Rattle.rules.specs.Sound.{tiesAgree, placeAgrees, otherSpot, fewExpected, portAgrees, openAgrees, sound}
+use Rattle.rules.specs.Sound.{zeroPort, zeroCarrier, unusedZero, soundTool}
 use Rattle.rules.specs.Seen.{narrow, nameStands, tieStands, howManyExpected, spotTaken, someOpen, see}
 use Rattle.rules.specs.Row.{lower, lowest, enact, placed, unknownPod, foundOrNew}
 use Rattle.rules.specs.Verdict.{takesUnknownPod, canProceed, canCancel, cancelAt, cancelPort, failed}

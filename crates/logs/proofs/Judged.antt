@@ -53,7 +53,10 @@ module _ (k at : ℕ) (o : Outcome) (i : Input) (fit : fits i ≡ true) (x : Lis
   is-given = ap (outcome (o .tool)) (asked-back i fit (next .answer) (listOf (next .reports)) x)
 
   whole : ltb (length (entryOf o i ++ x)) (entrySize (entryOf o i ++ x)) ≡ false
-  whole = let e = size in let l = length-append (entryOf o i) x in le-ltb (length (entryOf o i ++ x)) (entrySize (entryOf o i ++ x)) (omega arith)
+  whole =
+      let e = size in
+      let l = length-append (entryOf o i) x in
+      le-ltb (length (entryOf o i ++ x)) (entrySize (entryOf o i ++ x)) (omega arith)
 
   some : 0 < length (entryOf o i ++ x)
   some = let l = length-append (entryOf o i) x in let s = entry-some (entryOf o i ++ x) in let e = size in omega arith

@@ -4,3 +4,6 @@ pub mod Stays
 pub mod Back
 pub mod Judged
 pub mod Heads
+pub mod InPlace
+pub mod Told
+pub mod Compared

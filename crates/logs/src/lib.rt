@@ -1,2 +1,5 @@
 // Request P14: the file of a log, read in place.
+pub mod bytes;
 pub mod head;
+pub mod shown;
+pub mod sizes;
