@@ -66,6 +66,7 @@ exact a b g = let l = leb-true a b (and-l _ _ g) in let h = leb-true b a (and-r 
 
 -- the mark, the version, and a set-up that document 01 accepts
 pub record GoodHead (m : List ℕ) : Type 0 where
+  pub long : 7 ≤ length m
   pub bytes : m ≡ headOf (byteAt m 5) (byteAt m 6) ++ drop 7 m
   pub accepted : setUp (byteAt m 5) (byteAt m 6) .answer ≡ 0
 
@@ -79,6 +80,7 @@ good-head (a ∷ b ∷ c ∷ d ∷ []) l g = absurd (omega arith)
 good-head (a ∷ b ∷ c ∷ d ∷ e ∷ []) l g = absurd (omega arith)
 good-head (a ∷ b ∷ c ∷ d ∷ e ∷ P ∷ []) l g = absurd (omega arith)
 good-head (a ∷ b ∷ c ∷ d ∷ e ∷ P ∷ B ∷ x) l g = record {
+  long = l;
   bytes =
       rw (
         exact 0x43 a (g 0 (omega arith)),
@@ -89,6 +91,25 @@ good-head (a ∷ b ∷ c ∷ d ∷ e ∷ P ∷ B ∷ x) l g = record {
       );
   accepted = rw (g 5 (omega arith), and-r (leb 0 B) _ (g 6 (omega arith)));
 }
+
+-- every part is refused with a number
+refuses : (k : ℕ) → k < 7 → 27 ≤ partAt head k .refusal
+refuses zero h = omega arith
+refuses (suc zero) h = omega arith
+refuses (suc (suc zero)) h = omega arith
+refuses (suc (suc (suc zero))) h = omega arith
+refuses (suc (suc (suc (suc zero)))) h = omega arith
+refuses (suc (suc (suc (suc (suc zero))))) h = omega arith
+refuses (suc (suc (suc (suc (suc (suc zero)))))) h = omega arith
+refuses (suc (suc (suc (suc (suc (suc (suc k))))))) h = absurd (omega arith)
+
+pub not-refused : (m : List ℕ) → readHead head 0 m .refusal ≡ 0 → GoodHead m
+not-refused m = go (head-read head m 0)
+  where
+    go : HeadRead head m 0 (readHead head 0 m) → readHead head 0 m .refusal ≡ 0 → GoodHead m
+    go (good l g z) e = good-head m l g
+    go (wrong k w l n a f r) e = let h = refuses k l in absurd (omega arith)
+    go (short k w l n a r) e = absurd (omega arith)
 
 -- a set-up that document 01 accepts is in range
 in-range : (P B : ℕ) → setUp P B .answer ≡ 0 → (between 1 P 4 && leb B 16) ≡ true

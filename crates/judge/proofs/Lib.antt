@@ -1,0 +1,3 @@
+pub mod Stepped
+pub mod Turned
+pub mod Begun
