@@ -8,7 +8,8 @@ use lib.Dec.{eqb}
 use Rattle.rules.specs.State.{recordOf}
 use Rattle.rules.specs.Seen.{Input}
 use Rattle.rules.specs.Promise.{Live, Orderly}
-use Rattle.image.specs.Image.{byteAt, reportsFrom}
+use Rattle.image.specs.Image.{byteAt, toolFrom, reportsFrom}
+use Rattle.logs.specs.Judging.{Judgement}
 use Rattle.maps.specs.State.{Mapped, stateOf}
 use Rattle.maps.specs.History.{Event, history}
 use Rattle.maps.specs.Promise.{Earned}
@@ -48,6 +49,15 @@ pub record ExchangeCall (before : List (List ℕ)) (message room : List ℕ) (an
   pub counted : items ≡ itemsIn message
   pub reply : left ≡ roomAfter room (replied (wholeIn before) message)
   pub many : length ≡ writtenIn room (replied (wholeIn before) message)
+
+-- What hm_judge says, from what it leaves: its number, the three that it counts, and the bytes of the tool and of the reports.
+abbrev pub judgement : ℕ → List ℕ → List ℕ → List ℕ → Judgement
+judgement says judged tool reports = record {
+  says = says;
+  entry = getD judged 0 0;
+  at = getD judged 1 0;
+  last = record { tool = toolFrom tool; answer = getD judged 2 0; reports = reportsFrom reports };
+}
 
 -- What a call brings: an input to hm_step; a message to hm_secs_step, which counted so many items; or a message to hm_secs_exchange,
 -- with the room that was lent, the items that were counted, the room that was left and the length of the reply.

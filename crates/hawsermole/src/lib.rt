@@ -4,15 +4,17 @@ ghost use mathlib.Core.Path.{_≡_};
 ghost use mathlib.Core.Bool.{cond};
 ghost use Rattle.rules.specs.Seen.{inputOf};
 ghost use Rattle.items.specs.Reading.{readMessage};
+ghost use Rattle.logs.specs.Judging.{judge};
 ghost use Rattle.names.specs.Check.{nameLength};
 ghost use Rattle.waiting.specs.Waiting.{answerIn, foundIn};
 ghost use Rattle.tool.specs.Whole.{wholeIn, soundWhole};
-ghost use Rattle.hawsermole.specs.Calls.{SetUpCall, StepCall, SecsCall, ExchangeCall};
+ghost use Rattle.hawsermole.specs.Calls.{SetUpCall, StepCall, SecsCall, ExchangeCall, judgement};
 ghost use Rattle.replies.specs.Reply.{replyText, Wrote};
 use bridge::bridge::bridge_step;
 use bridge::exchange::exchange;
 use door::door::door_step;
 use items::reader::read_message;
+use judge::log::judge_log;
 use names::check::name_length;
 use records::carrier::Carrier;
 use replies::reply::reply;
@@ -151,4 +153,20 @@ pub extern "C" fn hm_secs_at(message: &[u8]) -> usize
 {
     let w = read_message(message);
     w.at
+}
+
+// A log judged by document 01: 0, it agrees; 1, an entry disagrees; 27 to 29, it is refused. `judged` is how many entries agree before
+// that, where the judging ended, and the answer that document 01 gave last; `tool` and `reports` are the tool and the reports then.
+#[no_mangle]
+pub extern "C" fn hm_judge(
+    log: &[u8],
+    tool: &mut [u8; 1891],
+    reports: &mut [u8; 141],
+    judged: &mut [u64; 3],
+) -> u32
+    ensures { λ r. ⌜ judgement r (now (judged .exit)) (now (tool .exit)) (now (reports .exit)) ≡ judge (now (log .entry)) ⌝ }
+{
+    let v = judge_log(log, tool, reports);
+    *judged = [v.entry as u64, v.at as u64, v.answer as u64];
+    v.says as u32
 }
