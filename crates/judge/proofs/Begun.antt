@@ -1,6 +1,6 @@
 -- The head is refused, or the judging begins after it with a sound tool.
 use Prim.Native.Nat.{ℕ, _≤_}
-use mathlib.Core.Path.{_≡_, refl, sym, ap, _∙_}
+use mathlib.Core.Path.{_≡_, sym, ap, _∙_}
 use mathlib.Core.Bool.{true}
 use mathlib.Core.Logic.{_≢_}
 use mathlib.Core.List.{List}
@@ -15,7 +15,7 @@ use Rattle.rules.proofs.SoundTools.{setup-sound}
 use Rattle.image.specs.Image.{byteAt}
 use Rattle.logs.specs.declared.head.Stop.{Stop}
 use Rattle.logs.specs.Layout.{head, readHead}
-use Rattle.logs.specs.Judging.{Judgement, ended, untouched, judging, judge}
+use Rattle.logs.specs.Judging.{ended, untouched, judging, judge}
 use Rattle.logs.proofs.Heads.{not-refused}
 
 module _ (m : List ℕ) (s : Stop) (e : s ≡ readHead head 0 m) where

@@ -1,11 +1,11 @@
 -- One entry: its input, what document 01 gives for it, and what it shows.
-use Prim.Native.Nat.{ℕ, _+_, _-_, _<_, _≤_}
+use Prim.Native.Nat.{ℕ, _+_, _-_, _≤_}
 use native.Mathlib.Omega.{arith}
 use native.Mathlib.Nat.{add-zero}
-use mathlib.Core.Path.{_≡_, refl, sym, ap, _∙_}
+use mathlib.Core.Path.{_≡_, sym, ap, _∙_}
 use mathlib.Core.Bool.{Bool, true}
 use mathlib.Core.List.{List, []}
-use lib.ListN.{length, take, drop, length-take}
+use lib.ListN.{take, drop, length-take}
 use lib.Seq.{getD-drop, drop-drop}
 use lib.Dec.{eqb}
 use Rattle.lists.specs.Lists.{sameList}

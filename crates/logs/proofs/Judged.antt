@@ -2,24 +2,24 @@
 use Prim.Native.Nat.{ℕ, zero, suc, _+_, _≤_, _<_}
 use native.Mathlib.Omega.{arith}
 use native.Mathlib.Nat.{add-zero}
-use mathlib.Core.Path.{_≡_, refl, sym, ap, ap₂, _∙_}
-use mathlib.Core.Bool.{Bool, true, false, cond, _&&_}
+use mathlib.Core.Path.{_≡_, refl, sym, ap, _∙_}
+use mathlib.Core.Bool.{Bool, true, false, cond}
 use mathlib.Core.List.{List, [], _∷_, _++_, append-assoc}
-use lib.ListN.{length, drop, length-append, length-drop}
-use lib.Seq.{drop-at}
+use lib.ListN.{length, take, drop, length-append, length-drop}
+use lib.Seq.{drop-at, length-take-le}
 use lib.Dec.{ltb}
-use borrow.Author.Tests.{ltb-true, ltb-false, le-ltb, lt-ltb}
-use Rattle.lists.specs.Lists.{every, sameList}
+use borrow.Author.Tests.{ltb-true, ltb-false, le-ltb}
+use Rattle.lists.specs.Lists.{every}
 use Rattle.lists.proofs.Bools.{and-l, and-r, and-i}
 use Rattle.lists.proofs.Tests.{list-is, list-same}
 use Rattle.rules.specs.declared.report.Outcome.{Outcome}
 use Rattle.rules.specs.Seen.{Input}
 use Rattle.rules.specs.Outcome.{outcome}
-use Rattle.logs.specs.Layout.{inputIn, entrySize, shownIn}
+use Rattle.logs.specs.Layout.{inputIn, entrySize}
 use Rattle.logs.specs.Written.{shown, listOf, input, fits}
 use Rattle.logs.specs.Judging.{Judgement, ended, shows, judging}
 use Rattle.logs.proofs.Turns.{entry-some, file-ends, given, one-turn}
-use Rattle.logs.proofs.Stays.{size-stays, input-same, shows-same}
+use Rattle.logs.proofs.Stays.{same-size, same-input, same-shows, front-alike}
 use Rattle.logs.proofs.Back.{entry-back, asked-back, shown-back, input-read, entry-read}
 
 -- ── A run by outcomes, and its entries ──
@@ -174,10 +174,14 @@ pub judged : (k at : ℕ) (o : Outcome) (l : List ℕ) → Judged k at o l (judg
 judged k at o l = judged-in (length l) k at o l (omega arith)
 
 -- ── Whatever follows an entry that disagrees ──
-pub stays : (k at : ℕ) (o : Outcome) (l x : List ℕ) → 0 < length l → entrySize l ≤ length l → shows l (given o l) ≡ false
-    → judging k at o 0 (l ++ x) ≡ ended 1 k at (given o l)
-stays k at o l x s w d =
-    let n = length-append l x in
-    let same = ap (outcome (o .tool)) (input-same x l w) in
-    one-turn k at o (l ++ x) (omega arith)
-    ∙ rw (size-stays x l w, le-ltb (length (l ++ x)) (entrySize l) (omega arith), same, shows-same x l w (given o l), d)
+pub stays : (k at : ℕ) (o : Outcome) (l x : List ℕ) → entrySize l ≤ length l → shows l (given o l) ≡ false
+    → judging k at o 0 (take (entrySize l) l ++ x) ≡ ended 1 k at (given o l)
+stays k at o l x w d =
+    let s = entrySize l in
+    let b = take s l ++ x in
+    let h = front-alike s l x w in
+    let n : length b ≡ s + length x = length-append (take s l) x ∙ ap (λ t. t + length x) (length-take-le s l w) in
+    let z = entry-some l in
+    let g = ap (outcome (o .tool)) (same-input l b h w (omega arith)) in
+    one-turn k at o b (omega arith)
+    ∙ rw (same-size l b h, le-ltb (length b) s (omega arith), g, same-shows l b h w (omega arith) (given o l), d)

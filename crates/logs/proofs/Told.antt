@@ -1,17 +1,16 @@
 -- A report that is to stand at a position, part by part.
-use Prim.Native.Nat.{ℕ, suc, _+_, _-_, _<_, _≤_}
+use Prim.Native.Nat.{ℕ, suc, _+_, _-_, _≤_}
 use native.Mathlib.Omega.{arith}
 use mathlib.Core.Path.{_≡_, refl, sym, ap, ap₂, _∙_}
-use mathlib.Core.Bool.{Bool, true, false, cond, _&&_}
+use mathlib.Core.Bool.{Bool, true, false, _&&_}
 use mathlib.Core.List.{List, [], _∷_, _++_}
 use lib.ListN.{length, getD, take, drop, length-append, length-drop}
 use lib.Seq.{take-take, getD-take, getD-drop, length-take-le}
 use lib.Dec.{eqb}
 use Rattle.lists.specs.Lists.{whereIs}
 use Rattle.rules.specs.declared.report.Report.{Report}
-use Rattle.image.specs.Image.{table, byteAt, nameFrom}
+use Rattle.image.specs.Image.{byteAt, nameFrom}
 use Rattle.image.proofs.Table.{length-table, table-same, is-table}
-use Rattle.logs.specs.declared.shown.Told.{Told}
 use Rattle.logs.specs.Layout.{onName}
 use Rattle.logs.specs.Written.{textOf, subjectOf, report}
 use Rattle.logs.specs.InPlace.{begins, toldAt}

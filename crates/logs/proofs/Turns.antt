@@ -8,8 +8,7 @@ use lib.ListN.{length, drop}
 use lib.Dec.{ltb}
 use Rattle.rules.specs.declared.report.Outcome.{Outcome}
 use Rattle.rules.specs.Outcome.{outcome}
-use Rattle.image.specs.Image.{byteAt}
-use Rattle.logs.specs.Layout.{codesSize, inputSize, inputIn, answerSize, entrySize}
+use Rattle.logs.specs.Layout.{inputSize, inputIn, answerSize, entrySize}
 use Rattle.logs.specs.Judging.{Judgement, ended, shows, judging}
 
 pub input-some : (l : List ℕ) → 4 ≤ inputSize l

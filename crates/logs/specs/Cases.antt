@@ -1,9 +1,9 @@
 -- The definition by cases: for each clause of the request a log that meets it, and one beside it that doesn't.
-use Prim.Native.Nat.{ℕ, zero, suc, _+_}
-use mathlib.Core.Bool.{Bool, cond, _&&_}
+use Prim.Native.Nat.{ℕ, zero, suc}
+use mathlib.Core.Bool.{Bool, _&&_}
 use mathlib.Core.List.{List, [], _∷_, _++_}
 use lib.ListN.{length, replicate, take}
-use lib.Dec.{eqb, ltb}
+use lib.Dec.{eqb}
 use Rattle.rules.specs.TwelveRows.{twelve}
 use Rattle.logs.specs.Written.{entries, headOf}
 use Rattle.logs.specs.Judging.{judge}

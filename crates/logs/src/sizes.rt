@@ -1,6 +1,6 @@
 // Where the parts of an entry end.
 ghost use mathlib.Core.Path.{_≡_};
-ghost use Prim.Native.Nat.{_+_, _*_, _^_, _≤_, _<_};
+ghost use Prim.Native.Nat.{_+_, _^_, _≤_, _<_};
 ghost use lib.ListN.{drop};
 ghost use Rattle.logs.specs.Layout.{codesSize, onName, inputSize, reportSize, reportsSize, entrySize};
 use crate::bytes::*;

@@ -1,9 +1,8 @@
 use borrow.Author.Needs.{needs}
 use native.Mathlib.Omega.{arith}
-use Prim.Native.Nat.{ℕ, _+_, _≤_}
-use mathlib.Core.Path.{_≡_, ap, _∙_}
+use Prim.Native.Nat.{_+_, _≤_}
+use mathlib.Core.Path.{ap, _∙_}
 use lib.ListN.{length, drop}
-use Rattle.rules.specs.Seen.{inputOf}
 use Rattle.rules.specs.Outcome.{outcome}
 use Rattle.image.specs.Image.{toolFrom}
 use Rattle.logs.specs.Layout.{inputSize}

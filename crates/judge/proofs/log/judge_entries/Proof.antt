@@ -1,18 +1,15 @@
 -- What is still to judge is judged as all of it is.
 use native.Mathlib.Omega.{arith}
-use native.Mathlib.Numerals.{add-one}
-use Prim.Native.Nat.{ℕ, suc, _+_, _-_, _≤_, _<_, _^_}
-use mathlib.Core.Path.{_≡_, refl, sym, ap, subst, _∙_}
-use mathlib.Core.Bool.{Bool, true, false}
-use mathlib.Core.List.{List}
+use Prim.Native.Nat.{_-_, _≤_}
+use mathlib.Core.Path.{_≡_, refl, ap, _∙_}
+use mathlib.Core.Bool.{true}
 use lib.ListN.{length, drop}
 use Rattle.lists.proofs.Bools.{not-true, not-false}
 use Rattle.rules.specs.Sound.{soundTool}
-use Rattle.rules.specs.Outcome.{outcome}
 use Rattle.rules.proofs.SoundTools.{tool-sound-after}
 use Rattle.image.specs.Image.{toolFrom}
-use Rattle.logs.specs.Layout.{inputIn, entrySize}
-use Rattle.logs.specs.Judging.{untouched, ended, judging}
+use Rattle.logs.specs.Layout.{inputIn}
+use Rattle.logs.specs.Judging.{untouched, judging}
 use Rattle.logs.proofs.Turns.{entry-some}
 use Rattle.judge.specs.Held.{gave}
 use Rattle.judge.proofs.Turned.{no-more, cut-short, disagrees, agrees}

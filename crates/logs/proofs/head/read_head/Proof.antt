@@ -1,4 +1,3 @@
-use borrow.Author.Needs.{needs}
 use Rattle.logs.proofs.InPlace.{head-is}
 use Rattle.logs.proofs.head.read_head.Statement.{statement}
 use Rattle.logs.proofs.head.read_head.Tie as tie

@@ -1,6 +1,6 @@
 use native.Mathlib.Omega.{arith}
-use Prim.Native.Nat.{ℕ, _+_, _*_, _-_, _≤_}
-use mathlib.Core.Path.{_≡_, sym, _∙_}
+use Prim.Native.Nat.{_+_, _*_, _-_, _≤_}
+use mathlib.Core.Path.{_≡_}
 use Rattle.image.specs.Image.{byteAt, reportsFrom}
 use Rattle.image.proofs.Reported.{reported-is}
 use Rattle.logs.proofs.Compared.{Passed, two-passed, one-passed, all-passed}

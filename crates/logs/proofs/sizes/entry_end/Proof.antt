@@ -1,5 +1,4 @@
 use borrow.Author.Needs.{needs}
-use mathlib.Core.Path.{_∙_, ap}
 use Rattle.logs.proofs.InPlace.{entry-end-is}
 use Rattle.logs.proofs.sizes.entry_end.Statement.{statement}
 use Rattle.logs.proofs.sizes.entry_end.Tie as tie
