@@ -1,6 +1,7 @@
 //! Inputs and states by chance, the same for the same seed.
 
 mod inputs;
+pub mod logs;
 mod parts;
 pub mod requests;
 mod tools;
