@@ -3,7 +3,7 @@
 //! it, and ends the comparison with status 1.
 //!
 //! `compare [N]`: some N inputs in each of the large parts; 100,000 where no N is given. Messages are a fifth of N up
-//! to 100,000, and N beyond; messages that are answered a fourth of these.
+//! to 100,000, and N beyond; messages that are answered, and longer logs, a fourth of these.
 
 mod answer;
 mod laws;
@@ -25,11 +25,14 @@ use independent::requests::texts::Texts as Words;
 use machine::{Both, Independent, Proved};
 use pairs::{allowed, Pairs};
 use parts::damaged::Damage;
+use parts::judge::{Judges, Logs};
 use parts::messages::Messages;
 use parts::names::Texts;
 use parts::replies::Replies;
 use parts::waiting::{Looks, Tables};
-use parts::{damaged, edges, maps, messages, names, odd, replies, runs, setups, states, twelve, waiting};
+use parts::{
+    damaged, edges, judge, maps, messages, names, odd, replies, runs, setups, states, twelve, waiting,
+};
 use play::{Finding, Tally};
 
 const SEED: u64 = 20_870_312;
@@ -61,7 +64,8 @@ fn main() -> ExitCode {
     let looks =
         Looks { proved: &|records| waiting::proved(&proved, records), independent: &waiting::independent };
     let repliers = Repliers { proved: &proved, independent: &Worded(texts), texts: &texts };
-    match compare(&both, &looks, &repliers, total) {
+    let judges = Judges { proved: &|log| judge::proved(&proved, log), independent: &judge::independent };
+    match compare(&both, &looks, &repliers, &judges, total) {
         Ok(table) => table.end(),
         Err(finding) => {
             println!("{}", tell::tell(&both, &finding));
@@ -90,6 +94,7 @@ struct Table {
     tables: Tables,
     messages: Messages,
     replies: Replies,
+    logs: Logs,
 }
 
 impl Table {
@@ -148,10 +153,19 @@ impl Table {
             "{messages} messages were answered in a room, {messages_too_long} of them with 14; the others {}",
             self.replies
         );
+        if self.logs.unmet() {
+            println!(
+                "NOT MET among the logs: one that agrees, one that doesn't, or one refused with 27, 28 or 29"
+            );
+        }
+        let Logs { judged, met: [agree, disagree, refused @ ..] } = self.logs;
+        println!(
+            "{judged} logs were judged: {agree} agree, {disagree} don't, {refused:?} are refused with 27, 28 and 29"
+        );
         let (met, all, inputs) = (self.along_runs.met(), allowed(), self.inputs);
         println!("{met} of {all} pairs of row and answer met along the runs; {inputs} inputs compared, no difference");
         let shown = !self.at_once.contains(&0) && !self.padded.contains(&0);
-        let all_met = missing.is_empty() && unmet.is_empty() && unanswered.is_empty();
+        let all_met = missing.is_empty() && unmet.is_empty() && unanswered.is_empty() && !self.logs.unmet();
         if all_met && self.runs_accepted >= LEAST_ACCEPTED && shown {
             ExitCode::SUCCESS
         } else {
@@ -160,7 +174,13 @@ impl Table {
     }
 }
 
-fn compare(both: &Both, looks: &Looks, repliers: &Repliers, total: u64) -> Result<Table, Finding> {
+fn compare(
+    both: &Both,
+    looks: &Looks,
+    repliers: &Repliers,
+    judges: &Judges,
+    total: u64,
+) -> Result<Table, Finding> {
     let mut table = Table::default();
     let mut rng = Rng::new(SEED);
     println!(
@@ -188,5 +208,6 @@ fn compare(both: &Both, looks: &Looks, repliers: &Repliers, total: u64) -> Resul
     let messages = if total <= 100_000 { total / 5 } else { total };
     table.messages = messages::compare(both, messages, &mut rng)?;
     table.replies = replies::compare(repliers, messages / 4, &mut rng)?;
+    table.logs = judge::compare(judges, messages / 4, &mut rng)?;
     Ok(table)
 }

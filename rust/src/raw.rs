@@ -22,6 +22,20 @@ pub const TOOL_BYTES: usize = 3782;
 pub const REPORTS_BYTES: usize = 141;
 /// How many bytes a carrier's record has.
 pub const CARRIER_BYTES: usize = 50;
+/// How many bytes document 01's tool has, before any request: what the judge of logs is lent.
+pub const JUDGE_TOOL_BYTES: usize = 1891;
+/// How many bytes its reports have.
+pub const JUDGE_REPORTS_BYTES: usize = 141;
+
+/// How far a log was judged.
+#[derive(Clone, Copy, Debug, Default, PartialEq, Eq)]
+#[repr(C)]
+pub struct Judged {
+    /// The first entry that disagrees, from 0; else how many agreed.
+    pub entry: u64,
+    /// Where that entry begins, or the log's length; where the log is refused, the place of that.
+    pub at: u64,
+}
 
 // `include/hawsermole.h` says what each gives.
 unsafe extern "C" {
@@ -62,6 +76,15 @@ unsafe extern "C" {
     pub fn hm_reply(number: u32, room: *mut u8, room_length: u64, length: &mut u32) -> u32;
     /// Where the reading of a message stopped; [`secs_at`] is the same with a slice.
     pub fn hm_secs_at(message: *const u8, length: u64) -> u64;
+    /// Judges a log: 0 where all entries agree, 1 where one doesn't, else the refusal, 27 to 29. Tool and reports are
+    /// lent for the time of the call, whatever their bytes.
+    pub fn hm_judge(
+        log: *const u8,
+        log_len: usize,
+        tool: &mut [u8; JUDGE_TOOL_BYTES],
+        reports: &mut [u8; JUDGE_REPORTS_BYTES],
+        place: &mut Judged,
+    ) -> u32;
     /// One input; [`step`] is the same with slices.
     pub fn hm_step(
         tool: &mut [u8; TOOL_BYTES],

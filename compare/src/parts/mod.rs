@@ -2,6 +2,7 @@
 
 pub mod damaged;
 pub mod edges;
+pub mod judge;
 pub mod maps;
 pub mod messages;
 pub mod names;

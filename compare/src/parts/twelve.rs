@@ -10,7 +10,7 @@ use crate::script::tabled;
 const THREES: [u8; 25] = [3; 25];
 
 /// The table: input, answer, reports.
-fn rows() -> [(Input, u32, &'static str); 12] {
+pub fn rows() -> [(Input, u32, &'static str); 12] {
     [
         (input(1, 1, 0, b"AB", b""), 0, "3 1 0>1; 4 1 0>1; 5 AB 0>1; 6 AB 0>1; 7 AB 0>1"),
         (at(13, 1), 0, "1 1 1>3; 3 1 1>0"),

@@ -5,11 +5,15 @@ use std::vec::Vec;
 use super::{random_run_input, Rng};
 use crate::judge::{fits, Log};
 
-/// The log of a run of so many inputs, all of which a log has room for.
+/// The log of a run of so many inputs, all of which a log has room for. Some names are padded with
+/// blanks, which no row takes before any request.
 pub fn random_log(ports: u8, places: u8, entries: usize, rng: &mut Rng) -> Log {
     let mut log = Log::begin(ports, places);
     while log.entries.len() < entries {
-        let input = random_run_input(&log.tool, rng);
+        let mut input = random_run_input(&log.tool, rng);
+        if rng.chance(2) {
+            input.name.push(b' ');
+        }
         if fits(&input) {
             log.give(&input);
         }
