@@ -1,5 +1,7 @@
-//! P14: logs of other tools, judged. Logs of runs with every set-up, which agree; the same with one byte changed, cut, or
-//! with an entry that shows something else.
+//! P14: logs of other tools, judged. Logs of runs with every set-up, which agree; the same with one byte changed, cut,
+//! or with an entry that shows something else.
+
+use std::fmt;
 
 use hawsermole::raw::{self, Judged, JUDGE_REPORTS_BYTES, JUDGE_TOOL_BYTES};
 use independent::gen::logs::{edited, random_log};
@@ -70,16 +72,21 @@ fn refused(number: u32, agreed: u64) -> Said {
     Said { answer: number, entry: agreed, at: None }
 }
 
-/// How many logs were judged, and how many of them agree, disagree, and are refused with 27, 28 and 29.
+/// What may be said of a log.
+const KINDS: [&str; 5] = ["agrees", "disagrees", "27", "28", "29"];
+
+/// How many logs were judged, and how often each was said.
 #[derive(Clone, Copy, Default)]
 pub struct Logs {
     pub judged: u64,
-    pub met: [u64; 5],
+    pub met: [u64; KINDS.len()],
 }
 
 impl Logs {
-    pub fn unmet(&self) -> bool {
-        self.met.contains(&0)
+    /// What must be said of some log, and wasn't.
+    pub fn unmet(&self) -> Vec<String> {
+        let kinds = KINDS.iter().zip(self.met).filter(|(_, times)| *times == 0);
+        kinds.map(|(kind, _)| kind.to_string()).collect()
     }
 
     fn note(&mut self, said: Said) {
@@ -89,6 +96,14 @@ impl Logs {
             1 => 1,
             refused => refused as usize - 25,
         }] += 1;
+    }
+}
+
+/// `agrees: 123, disagrees: 45, ..`.
+impl fmt::Display for Logs {
+    fn fmt(&self, f: &mut fmt::Formatter) -> fmt::Result {
+        let kinds = KINDS.iter().zip(self.met).map(|(kind, times)| format!("{kind}: {times}"));
+        f.write_str(&kinds.collect::<Vec<String>>().join(", "))
     }
 }
 

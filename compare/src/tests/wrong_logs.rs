@@ -171,7 +171,7 @@ fn sloppy(wrong: Sloppy) -> (usize, String, String) {
 #[test]
 fn the_sloppy_judge_is_right_where_it_does_nothing_otherwise() {
     let logs = compared(&|log| RIGHT.judge(log), &judge::independent).unwrap_or_else(|why| panic!("{why:?}"));
-    assert!(!logs.unmet() && logs.judged > 50_000 && Logs::default().unmet());
+    assert!(logs.unmet().is_empty() && logs.judged > 40_000, "{logs}");
     let [agree, disagree, ..] = logs.met;
     assert!(agree > 3_000 && disagree > 20_000, "{:?}", logs.met);
 }
@@ -257,7 +257,7 @@ fn another_number_or_place_is_told() {
     );
 }
 
-/// Other machines than document 01's: the tool with its requests, one that forgets, and one whose state isn't carried on.
+/// Other machines than document 01's: the tool with its requests, one that forgets a row, and one that forgets all.
 #[test]
 fn other_machines_are_found() {
     let with_requests: Step = |base, i, reports| {
