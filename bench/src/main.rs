@@ -2,6 +2,7 @@
 //! counted.
 
 mod frame;
+mod logs;
 mod machine;
 mod messages;
 mod mix;
@@ -12,8 +13,8 @@ mod time;
 use std::process::ExitCode;
 
 const USAGE: &str = "\
-usage: bench time [N [ROUNDS]]         time per message and frame, and per input of N mixed inputs; the last line is the
-                                       ratio of the inputs
+usage: bench time [N [ROUNDS]]         time per message and frame, entries of a log of N a second, and time per input of
+                                       N mixed inputs; the last line is the ratio of the inputs
        bench play N CARRIERS           plays N mixed inputs near so many live carriers to the proved machine
        bench play N CARRIERS INPUT     plays one input, by its document 01 name or number, from N prepared states
        bench search N CARRIERS         plays every row in turn, accepted and refused, from N prepared states

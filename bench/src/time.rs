@@ -7,6 +7,7 @@ use independent::requests::{step, step_known_sound, Tool};
 use independent::{Plain, Reports};
 
 use crate::frame;
+use crate::logs;
 use crate::machine::{caller_of_hm_step, reading_alone, Step};
 use crate::messages;
 use crate::mix::{record, Mix};
@@ -23,6 +24,7 @@ const STEPS: [(&str, Step); 4] = [
 /// Times `count` inputs in some rounds and prints the least of each; fails where the programs differ.
 pub fn time(count: usize, rounds: usize) -> Result<(), String> {
     messages::time(count.div_ceil(10), rounds)?;
+    logs::time(count, rounds)?;
     let mix = record(count, CARRIERS);
     let digests = STEPS[..3].iter().map(|(_, step)| digest(&mix, *step)).collect::<Vec<u64>>();
     if digests.iter().any(|&d| d != digests[0]) {
