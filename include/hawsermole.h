@@ -6,25 +6,27 @@
  * A host's S3F17 goes to hm_secs_exchange as it came: the text is read, what it asks for is stepped, and the text of
  * S3F18, the answer to the host, is written into room that you lend. hm_secs_step is the same without the reply.
  * The rules are document 01's, with document 02's requests P1, expected maps, P3, SECS-II from the host bridge,
- * P4, names padded with blanks, P2: hm_waiting, and P13, answers to the bridge.
+ * P4, names padded with blanks, P2: hm_waiting, and P13, answers to the bridge. hm_judge, P14, judges a log by
+ * document 01 without any request.
  * C99, C11 and C++17.
  * Link with libhawsermole.a; see examples/firmware.c and examples/host_bridge.c. hawsermole_words.h has words for the
  * numbers, and a carrier by its name; hawsermole_events.h SEMI E87's numbers of what a report tells.
  * docs/LANDINGS.md is the list of changes.
  *
  * WHAT THE LIBRARY ANSWERS FOR
- * Every input is answered. The number, the port and the value may be any 32-bit number, the name, the codes and a
- * message any bytes of any length, and the tool may hold any bytes. A refused input changes nothing in the tool.
+ * Every input is answered. The number, the port and the value may be any 32-bit number, the name, the codes, a message
+ * and a log any bytes of any length, and the tool may hold any bytes. A refused input changes nothing in the tool.
  * A tool is plain bytes without pointers: it may be copied, compared with memcmp, kept in battery-backed memory
  * and handed back after a restart. A damaged one that is no longer sound is refused, never acted on. Sound is
  * not the same as true: damage that leaves a sound tool can't be seen, so keep a checksum beside a stored one.
  *
  * WHAT THE CALLER ANSWERS FOR (nothing checks these)
  * - Every pointer is valid for the whole of what it points to, and none is NULL, also where a length is 0:
- *   HM_NOTHING, with length 0, stands for no name, no codes or no message.
- * - What is written (the tool, the reports, the count of items, the room, the reply's length) doesn't overlap, and none
- *   of it overlaps the name, the codes or the message. So don't pass a name that stands in that same tool or in those
- *   reports: copy it out first. Nor is a reply written over the message that it answers.
+ *   HM_NOTHING, with length 0, stands for no name, no codes, no message or no log.
+ * - What a call writes (the tool, the reports, the count of items, the room, the reply's length, what was found or
+ *   judged) doesn't overlap, and none of it overlaps what it reads: the name, the codes, the message, the log. So don't
+ *   pass a name that stands in that same tool or in those reports: copy it out first. Nor is a reply written over the
+ *   message that it answers.
  * - One caller at a time for one tool, and nobody else reads or writes what a call was handed while it runs.
  *   Different tools may be used at the same time: the library keeps no state.
  * - An accepted input has had its whole effect in the record, whatever the machine has done so far. So it is sent when
@@ -70,6 +72,7 @@ extern "C" {
 #define HM_REPLY_ROOM 95           /* bytes of room that every reply fits into: 15 and a text of at most 80 */
 #define HM_SPARE_BYTES 991         /* bytes of a tool that hold nothing yet */
 #define HM_TOOL_BYTES 3782
+#define HM_TOOL_01_BYTES 1891      /* the first of them: document 01's tool, without the requests */
 #define HM_REPORTS_BYTES 141
 
 /* Stack that one call may need, with room to spare; tests/c/stack.c measures it, and on boards `make board`. */
@@ -78,7 +81,7 @@ extern "C" {
 /* Port 0 means "not given", in the inputs whose port may be left out (2, 5 and 6). */
 #define HM_PORT_NOT_GIVEN 0
 
-/* For a name, codes or a message of length 0. */
+/* For a name, codes, a message or a log of length 0. */
 #ifdef __cplusplus
 #define HM_NOTHING (reinterpret_cast<const uint8_t *>(""))
 #else
@@ -146,6 +149,15 @@ enum hm_secs_refusal {
     HM_REFUSED_TOO_MANY_ITEMS = 24,  /* an item after the first HM_SECS_ITEMS */
     HM_REFUSED_BYTES_LEFT_OVER = 25, /* the item ends before the message does */
     HM_REFUSED_SHAPE_OR_ACTION = 26  /* another shape, or an action text that isn't one of the four */
+};
+
+/* What hm_judge says of a log. */
+enum hm_verdict {
+    HM_LOG_AGREES = 0,               /* every entry shows what document 01 gives */
+    HM_LOG_ENTRY_DISAGREES = 1,      /* one doesn't: hm_judged has which, and where it begins */
+    HM_REFUSED_MARK_OR_VERSION = 27, /* the mark isn't CMT, or the version isn't 1 */
+    HM_REFUSED_SET_UP = 28,          /* P isn't 1 to 4, or B isn't 0 to 16 */
+    HM_REFUSED_LOG_CUT_SHORT = 29    /* the file ends inside its head, or inside an entry */
 };
 
 /* The models of reports. The subject is a port in 1 to 4 and a name in 5 to 7. */
@@ -257,6 +269,15 @@ typedef struct hm_tool {
     uint8_t spare[HM_SPARE_BYTES];               /* all zero */
 } hm_tool;
 
+/* Document 01's tool alone, as a tool begins: what hm_judge leaves. */
+typedef struct hm_tool_01 {
+    uint8_t used;
+    uint8_t places;
+    uint8_t count;
+    hm_port ports[HM_PORTS];
+    hm_carrier carriers[HM_RECORDS];
+} hm_tool_01;
+
 typedef struct hm_report {
     uint8_t model;               /* enum hm_model */
     uint8_t port;                /* models 1 to 4: the port; else 0 */
@@ -275,6 +296,14 @@ typedef struct hm_found {
     uint64_t position; /* of the first carrier that waits, from 0; the count where none waits */
     uint64_t read;     /* records that were read to know: the position plus one, or all of them */
 } hm_found;
+
+/* How far hm_judge came. */
+typedef struct hm_judged {
+    uint64_t entry;  /* entries that agree, so the number, from 0, of the one that disagrees or is cut short */
+    uint64_t at;     /* bytes from the log's first: where that entry begins, the wrong or missing byte of the head, or
+                        the end of the log */
+    uint64_t answer; /* enum hm_answer: what document 01 answered last; 0 where it was given no input */
+} hm_judged;
 
 /*
  * Sets up a tool of 1 to 4 ports and 0 to 16 buffer places. Whatever the tool held before is gone.
@@ -357,6 +386,19 @@ uint32_t hm_sound(const hm_tool *tool);
 uint32_t hm_waiting(const hm_carrier *carriers, uint64_t count, hm_found *found);
 
 /*
+ * Judges the log of another maker's tool by document 01, as it stands before any request: no expected map, no blank at
+ * the end of a name. The log: the mark CMT; a version of two bytes, the high one first: 1; P and B; then entries. Every
+ * other number is one byte. An entry is input number, port, second number, name length, name, 25 codes for input 20
+ * only, answer, report count, reports; a report is model, subject (for models 5 to 7 name length and name, for every
+ * other number a port), old, new. Answers by enum hm_verdict, the first that is met in the order of the file; an entry
+ * is read to its end before it is judged, and nothing is read after one that disagrees.
+ * What tool, reports and judged held before is gone. The tool is document 01's after the last input that it was given,
+ * the reports are that input's, and judged->answer its answer: for HM_LOG_ENTRY_DISAGREES what the entry should show.
+ * All zero where the head is refused. A log of any length is read once, where it stands, and no byte outside it.
+ */
+uint32_t hm_judge(const uint8_t *log, uint64_t length, hm_tool_01 *tool, hm_reports *reports, hm_judged *judged);
+
+/*
  * HM_VERSION, sizeof(hm_tool) and sizeof(hm_reports) as the archive has them: compare once at start. An archive of
  * another version may lay a tool out otherwise, or write past the bytes that it is lent.
  */
@@ -412,6 +454,18 @@ HM_AT(hm_tool, ports, 3);
 HM_AT(hm_tool, carriers, 91);
 HM_AT(hm_tool, expected_maps, 1891);
 HM_AT(hm_tool, spare, 2791);
+
+HM_HOLDS(hm_tool_01_size, sizeof(hm_tool_01) == HM_TOOL_01_BYTES);
+HM_AT(hm_tool_01, used, 0);
+HM_AT(hm_tool_01, places, 1);
+HM_AT(hm_tool_01, count, 2);
+HM_AT(hm_tool_01, ports, 3);
+HM_AT(hm_tool_01, carriers, 91);
+
+HM_HOLDS(hm_judged_size, sizeof(hm_judged) == 24);
+HM_AT(hm_judged, entry, 0);
+HM_AT(hm_judged, at, 8);
+HM_AT(hm_judged, answer, 16);
 
 HM_HOLDS(hm_report_size, sizeof(hm_report) == 20);
 HM_AT(hm_report, model, 0);

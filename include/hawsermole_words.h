@@ -45,6 +45,15 @@ static inline const char *hm_answer_text(uint32_t answer)
                                          : HM_WORD(of_message, answer - HM_REFUSED_CUT_SHORT);
 }
 
+/* What hm_judge says of a log, enum hm_verdict. */
+static inline const char *hm_verdict_text(uint32_t verdict)
+{
+    static const char *const words[] = {"agrees", "an entry disagrees"};
+    static const char *const of_file[] = {"another mark or version", "no such set-up", "the log is cut short"};
+    return verdict < HM_REFUSED_MARK_OR_VERSION ? HM_WORD(words, verdict)
+                                                : HM_WORD(of_file, verdict - HM_REFUSED_MARK_OR_VERSION);
+}
+
 /* An input by its number, enum hm_input: document 01's name. */
 static inline const char *hm_input_text(uint32_t number)
 {

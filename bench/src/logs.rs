@@ -3,7 +3,7 @@
 use std::hint::black_box;
 use std::time::Instant;
 
-use hawsermole::raw::{self, Judged, JUDGE_REPORTS_BYTES, JUDGE_TOOL_BYTES};
+use hawsermole::raw::{self, REPORTS_BYTES, TOOL_01_BYTES};
 use independent::gen::logs::random_log;
 use independent::gen::Rng;
 use independent::judge::{judge, Log, Verdict};
@@ -16,11 +16,11 @@ type Judge = fn(&[u8]) -> Said;
 const JUDGES: [(&str, Judge); 2] = [("proved", proved), ("independent", independent)];
 
 fn proved(log: &[u8]) -> Said {
-    let mut place = Judged::default();
-    let (mut tool, mut reports) = ([0; JUDGE_TOOL_BYTES], [0; JUDGE_REPORTS_BYTES]);
-    // SAFETY: the log is lent with its length, tool and reports with their sizes, which document 01 fixes.
-    let answer = unsafe { raw::hm_judge(log.as_ptr(), log.len(), &mut tool, &mut reports, &mut place) };
-    (answer, place.entry)
+    let mut judged = [0; 3];
+    let (mut tool, mut reports) = ([0; TOOL_01_BYTES], [0; REPORTS_BYTES]);
+    // SAFETY: the sizes are the archive's, which document 01 fixes.
+    let answer = unsafe { raw::judge(log, &mut tool, &mut reports, &mut judged) };
+    (answer, judged[0])
 }
 
 fn independent(log: &[u8]) -> Said {

@@ -34,6 +34,8 @@
 //! # Ok::<(), Refusal>(())
 //! ```
 //!
+//! The log of another maker's tool is judged by document 01 as it stands before any request: [`judge()`] (request P14).
+//!
 //! An operator panel asks every frame whether some carrier waits for the host: [`Tool::waiting`], or [`waiting`] for a
 //! table of records (document 02's request P2).
 //!
@@ -50,6 +52,7 @@ extern crate std;
 
 mod event;
 mod input;
+mod judge;
 mod machine;
 mod map;
 mod name;
@@ -65,9 +68,10 @@ pub mod words;
 
 pub use event::{Event, EVENTS};
 pub use input::{Input, Parts};
+pub use judge::{judge, LogRefusal, Verdict};
 pub use map::{ExpectedMap, MapError};
 pub use name::{Name, NameError, NAME_BYTES, TEXT_BYTES};
-pub use raw::{secs_at, CARRIER_BYTES, REPORTS_BYTES, TOOL_BYTES};
+pub use raw::{secs_at, CARRIER_BYTES, REPORTS_BYTES, TOOL_01_BYTES, TOOL_BYTES};
 pub use refusal::Refusal;
 pub use reply::{reply, Exchanged, REPLY_ROOM};
 pub use report::{Model, Report, Reports, Subject, REPORTS};

@@ -1,6 +1,6 @@
 //! The archive's functions behind safe ones, which call no archive of another version.
 use crate::input::Parts;
-use crate::raw::{self, CARRIER_BYTES, REPORTS_BYTES, TOOL_BYTES};
+use crate::raw::{self, CARRIER_BYTES, REPORTS_BYTES, TOOL_01_BYTES, TOOL_BYTES};
 
 /// Sets a tool up; a refused set-up leaves all zeros.
 pub fn setup(tool: &mut [u8; TOOL_BYTES], ports: u32, places: u32) -> u32 {
@@ -58,6 +58,20 @@ pub fn secs_exchange(
     // SAFETY: the sizes agree.
     let answer = unsafe { raw::secs_exchange(tool, reports, message, &mut items, room, &mut length) };
     (answer, items, length)
+}
+
+/// A log: what is said of it, and how many entries agree, where the judging ended, the answer that was given last; tool
+/// and reports are written.
+pub fn judge(
+    log: &[u8],
+    tool: &mut [u8; TOOL_01_BYTES],
+    reports: &mut [u8; REPORTS_BYTES],
+) -> (u32, [u64; 3]) {
+    check_sizes();
+    let mut judged = [0; 3];
+    // SAFETY: the sizes agree, and with that of a tool that of document 01's.
+    let says = unsafe { raw::judge(log, tool, reports, &mut judged) };
+    (says, judged)
 }
 
 fn check_sizes() {

@@ -18,24 +18,12 @@
 pub const VERSION: u32 = 0x000700;
 /// How many bytes a tool has.
 pub const TOOL_BYTES: usize = 3782;
+/// How many bytes document 01's tool has, with which a tool begins.
+pub const TOOL_01_BYTES: usize = 1891;
 /// How many bytes the reports of an input have.
 pub const REPORTS_BYTES: usize = 141;
 /// How many bytes a carrier's record has.
 pub const CARRIER_BYTES: usize = 50;
-/// How many bytes document 01's tool has, before any request: what the judge of logs is lent.
-pub const JUDGE_TOOL_BYTES: usize = 1891;
-/// How many bytes its reports have.
-pub const JUDGE_REPORTS_BYTES: usize = 141;
-
-/// How far a log was judged.
-#[derive(Clone, Copy, Debug, Default, PartialEq, Eq)]
-#[repr(C)]
-pub struct Judged {
-    /// The first entry that disagrees, from 0; else how many agreed.
-    pub entry: u64,
-    /// Where that entry begins, or the log's length; where the log is refused, the place of that.
-    pub at: u64,
-}
 
 // `include/hawsermole.h` says what each gives.
 unsafe extern "C" {
@@ -76,14 +64,13 @@ unsafe extern "C" {
     pub fn hm_reply(number: u32, room: *mut u8, room_length: u64, length: &mut u32) -> u32;
     /// Where the reading of a message stopped; [`secs_at`] is the same with a slice.
     pub fn hm_secs_at(message: *const u8, length: u64) -> u64;
-    /// Judges a log: 0 where all entries agree, 1 where one doesn't, else the refusal, 27 to 29. Tool and reports are
-    /// lent for the time of the call, whatever their bytes.
+    /// A log, judged by document 01; [`judge`] is the same with a slice.
     pub fn hm_judge(
         log: *const u8,
-        log_len: usize,
-        tool: &mut [u8; JUDGE_TOOL_BYTES],
-        reports: &mut [u8; JUDGE_REPORTS_BYTES],
-        place: &mut Judged,
+        length: u64,
+        tool: &mut [u8; TOOL_01_BYTES],
+        reports: &mut [u8; REPORTS_BYTES],
+        judged: &mut [u64; 3],
     ) -> u32;
     /// One input; [`step`] is the same with slices.
     pub fn hm_step(
@@ -212,6 +199,22 @@ pub fn reply(number: u32, room: &mut [u8], length: &mut u32) -> u32 {
     unsafe { hm_reply(number, room.as_mut_ptr(), room.len() as u64, length) }
 }
 
+/// A log, judged by document 01: 0, it agrees, 1, an entry disagrees, or 27 to 29. What is judged is how many entries
+/// agree, where the judging ended, and what document 01 answered last; tool and reports are the ones then.
+///
+/// # Safety
+/// [`sizes_agree`].
+#[inline(always)]
+pub unsafe fn judge(
+    log: &[u8],
+    tool: &mut [u8; TOOL_01_BYTES],
+    reports: &mut [u8; REPORTS_BYTES],
+    judged: &mut [u64; 3],
+) -> u32 {
+    // SAFETY: as for `step`.
+    unsafe { hm_judge(log.as_ptr(), log.len() as u64, tool, reports, judged) }
+}
+
 /// Where the reading of a message stopped: where the item begins that was refused with 20 to 24, the first byte left
 /// over (25), or the end.
 ///
@@ -241,8 +244,8 @@ mod tests {
     fn sizes_are_the_sum_of_their_parts() {
         use crate::tool::{HEAD_BYTES, PORT_BYTES, SPARE_BYTES};
         use crate::{PORTS, RECORDS, SLOTS};
-        let of_document_01 = HEAD_BYTES + PORTS * PORT_BYTES + RECORDS * CARRIER_BYTES;
-        assert_eq!(TOOL_BYTES, of_document_01 + RECORDS * SLOTS + SPARE_BYTES);
+        assert_eq!(TOOL_01_BYTES, HEAD_BYTES + PORTS * PORT_BYTES + RECORDS * CARRIER_BYTES);
+        assert_eq!(TOOL_BYTES, TOOL_01_BYTES + RECORDS * SLOTS + SPARE_BYTES);
         assert_eq!(REPORTS_BYTES, 1 + crate::REPORTS * crate::report::REPORT_BYTES);
     }
 }

@@ -2,7 +2,7 @@
 use crate::input::{Input, Parts};
 use crate::machine;
 use crate::name::{Name, NAME_BYTES};
-use crate::raw::{CARRIER_BYTES, REPORTS_BYTES, TOOL_BYTES};
+use crate::raw::{CARRIER_BYTES, REPORTS_BYTES, TOOL_01_BYTES, TOOL_BYTES};
 use crate::refusal::{refused, Refusal};
 use crate::reply::Exchanged;
 use crate::report::Reports;
@@ -85,6 +85,12 @@ impl Tool {
     /// A tool of any bytes, such as those that were kept from [`as_bytes`](Tool::as_bytes).
     pub const fn from_bytes(bytes: &[u8; TOOL_BYTES]) -> Tool {
         Tool { bytes: *bytes }
+    }
+
+    /// Document 01's tool within this one, to be written; the requests' bytes become zero, as in a tool that was set up.
+    pub(crate) fn only_document_01(&mut self) -> &mut [u8; TOOL_01_BYTES] {
+        self.bytes[TOOL_01_BYTES..].fill(0);
+        self.bytes.first_chunk_mut().expect("a tool begins with document 01's")
     }
 
     /// The tool's bytes: ports, places, records; 4 ports of 22 bytes; 36 carriers of 50 bytes; their 36 expected

@@ -1,5 +1,5 @@
 //! The words of `include/hawsermole_words.h`, as tests/c prints them, are this crate's.
-use hawsermole::{words, Model, Refusal, Row};
+use hawsermole::{words, LogRefusal, Model, Refusal, Row};
 use std::fs;
 
 fn lines() -> Vec<String> {
@@ -8,10 +8,16 @@ fn lines() -> Vec<String> {
         0 => "accepted".to_string(),
         _ => Refusal::from_number(number).map_or_else(out, |refusal| refusal.to_string()),
     };
+    let verdict = |number| match number {
+        0 => "agrees".to_string(),
+        1 => "an entry disagrees".to_string(),
+        _ => LogRefusal::from_number(number).map_or_else(out, |refusal| refusal.to_string()),
+    };
     let input = |number| Row::numbered(number).map_or_else(out, |row| row.name.to_string());
     let model = |number| Model::from_number(number).map_or_else(out, |model| model.to_string());
     let mut lines: Vec<String> =
         (0..=27).map(|number| format!("answer {number}: {}", answer(number))).collect();
+    lines.extend((0..=30).map(|number| format!("verdict {number}: {}", verdict(number))));
     lines.extend((0..=27).map(|number| format!("input {number}: {}", input(number))));
     lines.extend((0..=8).map(|number| format!("model {number}: {}", model(number))));
     for model in Model::ALL {

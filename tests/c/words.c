@@ -19,6 +19,7 @@ static void print_all(void)
     uint32_t model, state;
 
     print("answer", hm_answer_text, 0, 27);
+    print("verdict", hm_verdict_text, 0, 30);
     print("input", hm_input_text, 0, 27);
     print("model", hm_model_text, 0, 8);
     for (model = HM_MODEL_TRANSFER; model <= HM_MODEL_ACCESSING; model++) {

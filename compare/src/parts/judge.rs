@@ -3,7 +3,7 @@
 
 use std::fmt;
 
-use hawsermole::raw::{self, Judged, JUDGE_REPORTS_BYTES, JUDGE_TOOL_BYTES};
+use hawsermole::raw::{self, REPORTS_BYTES, TOOL_01_BYTES};
 use independent::gen::logs::{edited, random_log};
 use independent::gen::Rng;
 use independent::judge::{judge, Log, Verdict};
@@ -45,11 +45,12 @@ pub struct Judges<'a> {
 
 /// The proved function. What stood before in what it is lent must not matter.
 pub fn proved(_: &Proved, log: &[u8]) -> Said {
-    let mut place = Judged { entry: u64::MAX, at: u64::MAX };
-    let (mut tool, mut reports) = ([0xA5; JUDGE_TOOL_BYTES], [0xA5; JUDGE_REPORTS_BYTES]);
-    // SAFETY: the log is lent with its length, tool and reports with their sizes, which document 01 fixes.
-    let answer = unsafe { raw::hm_judge(log.as_ptr(), log.len(), &mut tool, &mut reports, &mut place) };
-    Said { answer, entry: place.entry, at: (answer <= 1).then_some(place.at) }
+    let mut judged = [u64::MAX; 3];
+    let (mut tool, mut reports) = ([0xA5; TOOL_01_BYTES], [0xA5; REPORTS_BYTES]);
+    // SAFETY: the sizes are the archive's, which document 01 fixes.
+    let answer = unsafe { raw::judge(log, &mut tool, &mut reports, &mut judged) };
+    let [entry, at, _] = judged;
+    Said { answer, entry, at: (answer <= 1).then_some(at) }
 }
 
 pub fn independent(log: &[u8]) -> Said {
