@@ -1,18 +1,23 @@
-//! `hawsermole [FILE]` plays a script of E87 inputs on the proved machine, line by line as it comes.
+//! `hawsermole [FILE]` plays a script of E87 inputs on the proved machine, line by line as it comes;
+//! `hawsermole judge FILE` judges a log by document 01, `hawsermole log SCRIPT [FILE]` writes one.
 #![forbid(unsafe_code)]
 
 mod causes;
 mod dialogue;
+mod entry;
 mod explain;
 mod fields;
 mod grounds;
 mod items;
+mod judge;
+mod log;
 mod message;
 mod numbers;
 mod options;
 mod people;
 mod player;
 mod print;
+mod progress;
 mod reply;
 mod run;
 #[cfg(test)]
@@ -40,6 +45,14 @@ fn main() -> ExitCode {
             Ok(End::Well) => ExitCode::SUCCESS,
             Ok(End::Unmet) => ExitCode::from(UNMET),
             Ok(End::Unreadable) => ExitCode::from(TROUBLE),
+            Err(message) => fail(&message),
+        },
+        Ok(Options::Judge { file }) => match judge::judge_file(file.as_deref(), &mut io::stdout()) {
+            Ok(status) => ExitCode::from(status),
+            Err(message) => fail(&message),
+        },
+        Ok(Options::Log { script, file }) => match log::write(script.as_deref(), file.as_deref()) {
+            Ok(printed) => say(&printed),
             Err(message) => fail(&message),
         },
         Err(message) => fail(&format!("{message}\n{}", options::USAGE)),

@@ -1,12 +1,15 @@
 //! What the command line asks for.
 use crate::{script, values};
-use hawsermole::{Refusal, ROWS};
-use std::ffi::{OsStr, OsString};
+use hawsermole::{LogRefusal, Refusal, ROWS};
+use std::ffi::OsString;
 use std::path::PathBuf;
 
 /// One line on how to call the program.
 pub const USAGE: &str =
     "usage: hawsermole [--explain] [--keep-going] [--check] [FILE]   (hawsermole --help says more)";
+/// How the two words are called that judge and write logs.
+const JUDGE: &str = "judge FILE";
+const LOG: &str = "log SCRIPT [FILE]";
 
 /// What to do.
 #[derive(Debug, PartialEq, Eq)]
@@ -17,6 +20,15 @@ pub enum Options {
     Play {
         file: Option<PathBuf>,
         manner: Manner,
+    },
+    /// No file is standard input.
+    Judge {
+        file: Option<PathBuf>,
+    },
+    /// No script is standard input, no file standard output.
+    Log {
+        script: Option<PathBuf>,
+        file: Option<PathBuf>,
     },
 }
 
@@ -33,13 +45,15 @@ pub struct Manner {
 
 /// Reads the arguments; `Err` says what is wrong with them.
 pub fn read(arguments: impl Iterator<Item = OsString>) -> Result<Options, String> {
-    let (mut file, mut manner, mut only_files) = (None, Manner::default(), false);
+    let (mut files, mut word, mut manner, mut only_files) = (Vec::new(), None, Manner::default(), false);
     for argument in arguments {
         let dashed = argument.as_encoded_bytes().starts_with(b"-") && argument != "-";
+        if !only_files && files.is_empty() && word.is_none() && (argument == "judge" || argument == "log") {
+            word = Some(argument);
+            continue;
+        }
         if only_files || !dashed {
-            if file.replace(argument).is_some() {
-                return Err("more than one FILE".into());
-            }
+            files.push(argument);
             continue;
         }
         match argument.to_str() {
@@ -52,8 +66,22 @@ pub fn read(arguments: impl Iterator<Item = OsString>) -> Result<Options, String
             _ => return Err(format!("unknown option '{}'", values::shown(argument.as_encoded_bytes()))),
         }
     }
-    let file = file.filter(|file| file.as_os_str() != OsStr::new("-")).map(PathBuf::from);
-    Ok(Options::Play { file, manner })
+    let mut files = files.into_iter().map(|file| (file != "-").then(|| PathBuf::from(file)));
+    match word {
+        None if files.len() > 1 => Err("more than one FILE".into()),
+        None => Ok(Options::Play { file: files.next().flatten(), manner }),
+        Some(word) if manner != Manner::default() => {
+            Err(format!("'{}' goes with no option", values::shown(word.as_encoded_bytes())))
+        }
+        Some(word) if word == "judge" => match (files.next(), files.next()) {
+            (Some(file), None) => Ok(Options::Judge { file }),
+            _ => Err(format!("expected {JUDGE}")),
+        },
+        Some(_) => match (files.next(), files.next(), files.next()) {
+            (Some(script), file, None) => Ok(Options::Log { script, file: file.flatten() }),
+            _ => Err(format!("expected {LOG}")),
+        },
+    }
 }
 
 /// The text of `--help`.
@@ -75,11 +103,17 @@ pub fn help() -> String {
     for refusal in Refusal::ALL {
         text += &format!("  {:>2}  {refusal}\n", refusal.number());
     }
+    text += "\nA log is refused with the first that is met in the order of the file:\n\n";
+    for refusal in LogRefusal::ALL {
+        text += &format!("  {:>2}  {refusal}\n", refusal.number());
+    }
     text
 }
 
 const HELP: &str = "\
 usage: hawsermole [--explain] [--keep-going] [--check] [FILE]
+       hawsermole judge FILE
+       hawsermole log SCRIPT [FILE]
 
 Plays a script of SEMI E87 inputs on the proved machine, line by line as it comes, from FILE or
 standard input (no FILE, or -).
@@ -90,6 +124,12 @@ standard input (no FILE, or -).
   --check       ends with status 1 unless every line that expect names was printed
   --help, -h    prints this
   --version     prints the version
+
+judge judges FILE, the log of another maker's tool, by document 01 before any request. Its last line is
+agrees, entry K, the first that disagrees, from 0, or refused N; the status is 0, 1 or 2. Before it stand,
+side by side, what that entry shows and what document 01 gives. log writes such a log of SCRIPT, a set-up
+and inputs alone, with document 01's answers, to FILE or standard output. A file whose name is one of these
+two words is played as ./judge or after --.
 
 A script has one command on each line, its words apart by spaces or tabs. An empty line, and one that
 begins with #, prints nothing.
@@ -179,6 +219,31 @@ mod tests {
     }
 
     #[test]
+    fn logs_are_judged_and_written() {
+        let path = |file: &str| Some(PathBuf::from(file));
+        let written = |script, file| Ok(Options::Log { script, file });
+        assert_eq!(asked(&["judge", "a"]), Ok(Options::Judge { file: path("a") }));
+        assert_eq!(asked(&["judge", "judge"]), Ok(Options::Judge { file: path("judge") }));
+        assert_eq!(asked(&["judge", "-"]), Ok(Options::Judge { file: None }));
+        assert_eq!(asked(&["judge", "--", "--explain"]), Ok(Options::Judge { file: path("--explain") }));
+        assert_eq!(asked(&["log", "a"]), written(path("a"), None));
+        assert_eq!(asked(&["log", "a", "b"]), written(path("a"), path("b")));
+        assert_eq!(asked(&["log", "-", "-"]), written(None, None));
+        assert_eq!(asked(&["--", "judge"]), play(Some("judge"), false));
+        assert_eq!(asked(&["./log"]), play(Some("./log"), false));
+        assert_eq!(asked(&["judge", "--help"]), Ok(Options::Help));
+    }
+
+    #[test]
+    fn logs_need_their_files() {
+        assert_eq!(asked(&["judge"]), Err("expected judge FILE".into()));
+        assert_eq!(asked(&["judge", "a", "b"]), Err("expected judge FILE".into()));
+        assert_eq!(asked(&["log"]), Err("expected log SCRIPT [FILE]".into()));
+        assert_eq!(asked(&["log", "a", "b", "c"]), Err("expected log SCRIPT [FILE]".into()));
+        assert_eq!(asked(&["--check", "judge", "a"]), Err("'judge' goes with no option".into()));
+    }
+
+    #[test]
     fn each_option_sets_its_own() {
         let manner = |argument| match asked(&[argument]) {
             Ok(Options::Play { file: None, manner }) => (manner.explain, manner.keep_going, manner.check),
@@ -201,6 +266,7 @@ mod tests {
         let help = help();
         assert!(ROWS.iter().all(|row| help.contains(&format!("  {} ", row.name))));
         assert!(help.contains("\n   8  the buffer place is taken, or the opener is in use\n"));
-        assert!(help.ends_with("\n  26  another shape or action\n"));
+        assert!(help.contains("\n  26  another shape or action\n"));
+        assert!(help.ends_with("\n  29  the log is cut short\n"));
     }
 }

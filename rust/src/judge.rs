@@ -1,9 +1,8 @@
 //! The log of another maker's tool, judged.
 use crate::machine;
 use crate::raw::REPORTS_BYTES;
-use crate::refusal::Refusal;
+use crate::refusal::{refused, Refusal};
 use crate::report::Reports;
-use crate::refusal::refused;
 use crate::tool::Tool;
 use core::fmt;
 
