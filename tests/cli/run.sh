@@ -270,6 +270,7 @@ held_open() {
     outcome "a script that is held open"
 }
 
+. "$here/logs.sh"
 for folder in examples tests/cli tests/scenarios; do scripts "$root/$folder"; done
 ways_in
 odd_bytes
@@ -279,6 +280,7 @@ slips
 files
 checks
 wrong_calls
+logs
 prints
 lost_output
 held_open
