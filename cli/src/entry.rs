@@ -154,7 +154,8 @@ mod tests {
     #[test]
     fn what_is_written_is_read() {
         let (log, given) = bound();
-        let expected = b"\x01\x01\0\x02AB\0\x05\x03\x01\0\x01\x04\x01\0\x01\x05\x02AB\0\x01\x06\x02AB\0\x01\x07\x02AB\0\x01";
+        let on_ports = b"\x01\x01\0\x02AB\0\x05\x03\x01\0\x01\x04\x01\0\x01";
+        let expected = [on_ports.as_slice(), b"\x05\x02AB\0\x01\x06\x02AB\0\x01\x07\x02AB\0\x01"].concat();
         assert_eq!(log, expected);
         let entry = read(&log).unwrap();
         assert_eq!(entry.input, Input::Bind { port: 1, name: b"AB" }.parts());

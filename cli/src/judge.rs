@@ -126,7 +126,7 @@ fn answer(number: u8) -> String {
     format!("answer {number}: {text}")
 }
 
-/// `port 1: READY TO LOAD to TRANSFER BLOCKED`, `carrier AB: record made, ID NOT READ`; a number that has no word is told.
+/// `port 1: READY TO LOAD to TRANSFER BLOCKED`, `carrier AB: record made, ID NOT READ`; also of numbers without a word.
 fn of_report(told: &Told) -> String {
     let subject = match &told.about {
         About::Port(port) => format!("port {port}"),
@@ -232,10 +232,12 @@ mod tests {
         let expected = "fixed buffer tool, 1 port: 1 entry agrees\n\
                         entry 1 at byte 17: LoadStart(1), a pod starts to arrive\n\n  \
                         the log shows                                   document 01 gives\n\
-                        * answer 0: accepted                              answer 5: the row's conditions on state don't\n\
+                        * answer 0: accepted                              \
+                        answer 5: the row's conditions on state don't\n\
                         *                                                 hold\n  \
                         0 reports                                       0 reports\n\n\
-                        document 01 refuses it because the port isn't READY TO LOAD: port 1 is TRANSFER BLOCKED, loading\n\
+                        document 01 refuses it because the port isn't READY TO LOAD: \
+                        port 1 is TRANSFER BLOCKED, loading\n\
                         entry 1\n";
         assert_eq!(judged(&log), Judged { printed: expected.into(), status: 1 });
     }

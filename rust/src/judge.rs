@@ -94,7 +94,7 @@ impl core::error::Error for LogRefusal {}
 /// ```
 /// use hawsermole::{judge, LogRefusal, Tool, Verdict};
 ///
-/// // A tool of two ports and no buffer. LoadStart at port 1: accepted, one report, transfer state of port 1 from 1 to 3.
+/// // Two ports, no buffer. LoadStart at port 1: accepted, one report, the port's transfer state from 1 to 3.
 /// let mut log = *b"CMT\0\x01\x02\0\x0D\x01\0\0\0\x01\x01\x01\x01\x03";
 /// let mut tool = Tool::none();
 /// assert_eq!(judge(&log, &mut tool), Verdict::Agrees { entries: 1 });

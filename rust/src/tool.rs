@@ -87,7 +87,7 @@ impl Tool {
         Tool { bytes: *bytes }
     }
 
-    /// Document 01's tool within this one, to be written; the requests' bytes become zero, as in a tool that was set up.
+    /// Document 01's tool within this one, to be written; the requests' bytes become zero.
     pub(crate) fn only_document_01(&mut self) -> &mut [u8; TOOL_01_BYTES] {
         self.bytes[TOOL_01_BYTES..].fill(0);
         self.bytes.first_chunk_mut().expect("a tool begins with document 01's")

@@ -19,6 +19,9 @@ HM_HOLDS(refusals_at_an_item, HM_REFUSED_CUT_SHORT == 20 && HM_REFUSED_UNKNOWN_C
 HM_HOLDS(more_at_an_item, HM_REFUSED_BAD_LENGTH == 22 && HM_REFUSED_TOO_DEEP == 23 && HM_REFUSED_TOO_MANY_ITEMS == 24);
 HM_HOLDS(refusals_of_a_message, HM_REFUSED_BYTES_LEFT_OVER == 25 && HM_REFUSED_SHAPE_OR_ACTION == 26);
 HM_HOLDS(a_reply, HM_REPLY_ROOM == 15 + 80 && HM_REFUSED_ROOM_TOO_SMALL == 14);
+HM_HOLDS(refusals_of_a_log, HM_REFUSED_MARK_OR_VERSION == 27 && HM_REFUSED_SET_UP == 28);
+HM_HOLDS(verdicts, HM_LOG_AGREES == 0 && HM_LOG_ENTRY_DISAGREES == 1 && HM_REFUSED_LOG_CUT_SHORT == 29);
+HM_HOLDS(bytes_of_document_01, HM_TOOL_01_BYTES == 1891);
 HM_HOLDS(bytes_of_a_tool, HM_TOOL_BYTES == 2 * 1891 && HM_SPARE_BYTES == 1891 - HM_RECORDS * HM_SLOTS);
 
 static hm_tool tool;
@@ -193,6 +196,17 @@ static void replies(void)
     CHECK(length == other_length && memcmp(room, other, length) == 0 && room[4] == 5 && room[12] == 3);
 }
 
+static void logs(void)
+{
+    static const uint8_t log[] = {'C', 'M', 'T', 0, 1, 1, 0, HM_INPUT_OPEN, 0, 0, 1, 'A', HM_REFUSED_NO_RECORD, 0};
+    hm_tool_01 base;
+    hm_judged judged;
+
+    CHECK(hm_judge(log, sizeof log, &base, &reports, &judged) == HM_LOG_AGREES && judged.entry == 1);
+    CHECK(judged.at == sizeof log && judged.answer == HM_REFUSED_NO_RECORD && base.used == 1 && reports.count == 0);
+    CHECK(hm_judge(HM_NOTHING, 0, &base, &reports, &judged) == HM_REFUSED_LOG_CUT_SHORT && base.used == 0);
+}
+
 static void refusals(void)
 {
     char name[2] = "a";
@@ -234,6 +248,7 @@ int main(void)
     names();
     messages();
     replies();
+    logs();
     refusals();
     return result("header");
 }

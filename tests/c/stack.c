@@ -31,6 +31,7 @@ static struct painted for_secs_step = {"hm_secs_step", NULL, NULL};
 static struct painted for_secs_at = {"hm_secs_at", NULL, NULL};
 static struct painted for_exchange = {"hm_secs_exchange", NULL, NULL};
 static struct painted for_reply = {"hm_reply", NULL, NULL};
+static struct painted for_judge = {"hm_judge", NULL, NULL};
 
 static ucontext_t here, there;
 static hm_tool tool;
@@ -39,6 +40,10 @@ static struct input in;
 static struct message message;
 static uint32_t answer, items, length;
 static uint8_t room[HM_REPLY_ROOM];
+static uint8_t entries[16384]; /* of the run that fills the tool */
+static size_t log_length;
+static void (*after_step)(void); /* what is done with each step */
+static unsigned long agreed, disagreed;
 static unsigned long accepted, refused, removed, removed_from_full, most_records, at_once, bridged, unread;
 static unsigned long replied;
 
@@ -117,6 +122,15 @@ static void call_reply(void)
     answer = hm_reply(in.number, room, sizeof room, &length);
 }
 
+static void call_judge(void)
+{
+    static hm_tool_01 base;
+    static hm_reports given;
+    static hm_judged judged;
+    for_judge.frame = (const char *)__builtin_frame_address(0);
+    answer = hm_judge(entries, log_length, &base, &given, &judged);
+}
+
 static void run_on(const struct painted *p, void (*call)(void))
 {
     getcontext(&there);
@@ -155,6 +169,59 @@ static void step(void)
     removed += tool.count < before;
     removed_from_full += tool.count < before && before == HM_RECORDS;
     most_records = tool.count > most_records ? tool.count : most_records;
+    if (after_step != NULL) {
+        after_step();
+    }
+}
+
+static void put(const void *bytes, size_t size)
+{
+    if (size > sizeof entries - log_length) {
+        fprintf(stderr, "the log is longer than its room\n");
+        exit(2);
+    }
+    memcpy(entries + log_length, bytes, size);
+    log_length += size;
+}
+
+/* The input that `in` holds and what it gave, as an entry. */
+static void put_entry(void)
+{
+    const uint8_t input[] = {(uint8_t)in.number, (uint8_t)in.port, (uint8_t)in.value, (uint8_t)in.name_length};
+    const uint8_t shown[] = {(uint8_t)answer, reports.count};
+    static const uint8_t codes[HM_SLOTS];
+    unsigned i;
+
+    put(input, sizeof input);
+    put(in.name, in.name_length);
+    put(in.codes_length == HM_SLOTS ? in.codes : codes, in.number == HM_INPUT_SLOT_MAP ? HM_SLOTS : 0);
+    put(shown, sizeof shown);
+    for (i = 0; i < reports.count; i++) {
+        const hm_report *r = &reports.items[i];
+        const uint8_t text = (uint8_t)strnlen((const char *)r->name, HM_NAME_BYTES);
+        const int on_name = r->model >= HM_MODEL_ID;
+        put(&r->model, 1);
+        put(on_name ? &text : &r->port, 1);
+        put(r->name, on_name ? text : 0);
+        put(&r->old_state, 2);
+    }
+}
+
+/* The run that filled the tool and the last step, as a log; and the same with a wrong answer. One port is enough. */
+static void judge_step(void)
+{
+    const size_t before = log_length;
+    const uint32_t answers[] = {answer, answer + 1};
+    int i;
+
+    for (i = 0; i < 2 && in.port == 1; i++) {
+        answer = answers[i];
+        put_entry();
+        run_on(&for_judge, call_judge);
+        agreed += answer == HM_LOG_AGREES;
+        disagreed += answer == HM_LOG_ENTRY_DISAGREES;
+        log_length = before;
+    }
 }
 
 /* So many lists, one in another, as the value of an attribute: it stands at depth four. */
@@ -194,6 +261,19 @@ static void secs_step(void)
             tool = before;
         }
     }
+}
+
+/* A run that fills a tool as a log, and every row after it. */
+static void judged_rows(hm_tool *kept_tool)
+{
+    static const uint8_t head[] = {'C', 'M', 'T', 0, 1, HM_PORTS, HM_PLACES};
+
+    put(head, sizeof head);
+    after_step = put_entry;
+    fill();
+    after_step = judge_step;
+    every_row(kept_tool);
+    after_step = NULL;
 }
 
 /* Runs by chance from a full tool and from set-up, now and then with a damaged byte. */
@@ -241,8 +321,10 @@ int main(int argc, char **argv)
     prepare(&for_secs_at);
     prepare(&for_exchange);
     prepare(&for_reply);
+    prepare(&for_judge);
     chance_state = 1;
     every_row_to_full_tools(&full);
+    judged_rows(&full);
     by_chance(&full, argc > 1 ? strtoul(argv[1], NULL, 10) : 50000);
     failed += figure(&for_step);
     failed += figure(&for_setup);
@@ -253,12 +335,14 @@ int main(int argc, char **argv)
     failed += figure(&for_secs_at);
     failed += figure(&for_exchange);
     failed += figure(&for_reply);
+    failed += figure(&for_judge);
     printf("over %lu accepted and %lu refused inputs, %lu records removed, %lu of them from a full tool of %lu, ",
            accepted, refused, removed, removed_from_full, most_records);
-    printf("%lu slot maps OK at once, %lu messages accepted, %lu too deep, %lu accepted with a reply\n", at_once,
+    printf("%lu slot maps OK at once, %lu messages accepted, %lu too deep, %lu accepted with a reply, ", at_once,
            bridged, unread, replied);
+    printf("%lu logs that agree, %lu that don't\n", agreed, disagreed);
     if (accepted == 0 || refused == 0 || removed_from_full == 0 || most_records != HM_RECORDS || at_once == 0 ||
-        bridged == 0 || unread == 0 || replied != bridged) {
+        bridged == 0 || unread == 0 || replied != bridged || agreed == 0 || disagreed == 0) {
         fprintf(stderr, "too little was met for this to mean anything\n");
         failed++;
     }
