@@ -50,8 +50,8 @@
 extern "C" {
 #endif
 
-/* The version of this header, 0x00MMmmpp: 0.7.0. hm_version is the archive's; compare the two once at start. */
-#define HM_VERSION 0x000700
+/* The version of this header, 0x00MMmmpp: 0.8.0. hm_version is the archive's; compare the two once at start. */
+#define HM_VERSION 0x000800
 
 /* Limits. */
 #define HM_PORTS 4                 /* a tool has 1 to 4 ports */
