@@ -5,6 +5,7 @@
 #
 # Blocks marked `played` go to the command line: lines that begin with > are typed, the others are its output.
 # Blocks marked `checked` are scripts that are tests: each must be met.
+# Blocks marked `judged` name a log after > and judge, and have what is printed of it.
 # Blocks marked `c` are compiled by $CC, and one with a main is linked with the library and run by $EMULATOR,
 # where that is set; the block `printed` after it is what it prints.
 # The block `side` has the name check to the right of its bars, line for line; the table of texts says of each how many
@@ -45,6 +46,17 @@ for script in "$work"/*.checked; do
     [ -e "$script" ] || fail "no block is a script that is a test"
     "$@" --check "$script" >"$work/got" || fail "a script that is a test isn't met"
     checked=$((checked + 1))
+done
+
+judged=0
+for block in "$work"/*.judged; do
+    [ -e "$block" ] || fail "no block is a log's verdict"
+    log=$(sed -n '1s/^> judge //p' "$block")
+    sed 1d "$block" >"$work/wanted"
+    "$@" judge "$root/$log" >"$work/got"
+    [ "$?" -le 1 ] || fail "$log can't be judged"
+    same "what is said of $log" "$work/wanted" "$work/got"
+    judged=$((judged + 1))
 done
 
 run=0
@@ -95,5 +107,6 @@ texts=$(cat "$work/count")
 same "the table of texts" "$work/wanted" "$work/got"
 
 typed=$(grep -c . "$work/typed")
-echo "quotes: $typed lines played, $checked scripts checked, $run C programs run, the name check and $texts texts:" \
+echo "quotes: $typed lines played, $checked scripts checked, $judged logs judged, $run C programs run," \
+    "the name check and $texts texts:" \
     "as the manual says"
