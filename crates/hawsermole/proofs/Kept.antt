@@ -14,11 +14,12 @@ use Rattle.rules.specs.declared.tool.Setup.{Setup}
 use Rattle.rules.specs.State as base
 use Rattle.rules.specs.State.{recordOf}
 use Rattle.rules.specs.Seen.{Input}
+use Rattle.rules.specs.History.{Event, history}
 use Rattle.rules.specs.Promise.{Live, Orderly}
 use Rattle.maps.specs.State.{Mapped, MappedTool, stateOf, start}
 use Rattle.maps.specs.Outcome.{rowIn, answerIn, stateAfter, refused, accepted, givenIn}
 use Rattle.maps.specs.Projection.{reached}
-use Rattle.maps.specs.History.{Event, events, history}
+use Rattle.maps.specs.History.{events}
 use Rattle.maps.specs.Promise.{Earned}
 use Rattle.maps.proofs.Promised.{promised}
 use Rattle.tool.specs.Whole as tool
@@ -128,7 +129,7 @@ module _ (before : List (List ℕ)) (answer : ℕ) (after : List (List ℕ)) (re
       go false q = after-text m items (as-text m room items left length k q) earlier t e
 
   abbrev happens : Input → Mapped → ℕ → Event
-  happens i s a = record { before = s; input = i; answer = a }
+  happens i s a = record { before = s .base; input = i; answer = a }
 
   -- an input that was answered as the tool answers is the run's next event
   event-after : (i : Input) → answer ≡ tool.outcome (wholeIn before) i .answer → (P B : ℕ) (earlier : List Input)

@@ -7,11 +7,11 @@ use lib.ListN.{length, getD}
 use lib.Dec.{eqb}
 use Rattle.rules.specs.State.{recordOf}
 use Rattle.rules.specs.Seen.{Input}
+use Rattle.rules.specs.History.{Event, history}
 use Rattle.rules.specs.Promise.{Live, Orderly}
 use Rattle.image.specs.Image.{byteAt, toolFrom, reportsFrom}
 use Rattle.logs.specs.Judging.{Judgement}
 use Rattle.maps.specs.State.{Mapped, stateOf}
-use Rattle.maps.specs.History.{Event, history}
 use Rattle.maps.specs.Promise.{Earned}
 use Rattle.tool.specs.Whole.{wholeIn, soundWhole, setUp}
 use Rattle.door.specs.Door.{shown, outcome}
@@ -101,7 +101,8 @@ taken (lent message room items left length) answer = cond (eqb answer 14) [] (re
 
 -- What happened in a call: the answer is the one that the call gave.
 abbrev pub eventsOf : Call → List Event
-eventsOf c = map (λ i. record { before = stateIn (c .before); input = i; answer = c .answer }) (taken (c .sent) (c .answer))
+eventsOf c =
+    map (λ i. record { before = stateIn (c .before) .base; input = i; answer = c .answer }) (taken (c .sent) (c .answer))
 
 unfoldable pub happened : List Call → List Event
 happened [] = []

@@ -25,7 +25,7 @@ use Rattle.rules.specs.Row as row
 use Rattle.rules.specs.Row.{judge, onRecord}
 use Rattle.rules.specs.Opening.{slotMap}
 use Rattle.rules.specs.Outcome as base-outcome
-use Rattle.rules.specs.History as base-history
+use Rattle.rules.specs.History.{Event, isLive, done, announcedThere}
 use Rattle.rules.specs.Promise.{Live}
 use Rattle.rules.proofs.Names.{name-is}
 use Rattle.rules.proofs.Lowest.{row-first-is-lowest}
@@ -33,7 +33,6 @@ use Rattle.maps.specs.State.{Mapped}
 use Rattle.maps.specs.Rows.{codesIn}
 use Rattle.maps.specs.Outcome.{rowIn, answerIn, stateAfter}
 use Rattle.maps.specs.Projection.{equalMap, proceed}
-use Rattle.maps.specs.History.{Event, done, announcedThere}
 use Rattle.maps.proofs.Amended.{atOnce, row-twenty, effect-is, accepted-there, mapped-live}
 use Rattle.maps.proofs.SoundRuns.{base-step}
 use Rattle.maps.proofs.Projected.{equal-twenty}
@@ -46,8 +45,8 @@ any-set f (x ∷ l) zero y d h e = ap (λ b. b || any f l) e
 any-set f (x ∷ l) (suc k) y d h e = ap (λ b. f x || b) (any-set f l k y d (le-of-suc-le-suc h) e)
 
 live-still : (s : State) (n : ℕ) (k : ℕ) (c : Carrier) (m : Name) → n ≡ length (s .carriers) → Live s k → c .name ≡ recordOf s k .name
-    → base-history.isLive (row.enact (onRecord n k c) s) m ≡ base-history.isLive s m
-unfolding base-history.isLive row.enact recordOf
+    → isLive (row.enact (onRecord n k c) s) m ≡ isLive s m
+unfolding isLive row.enact recordOf
 live-still s n k c m z l e =
     let w = length-set (s .carriers) k c in
     rw (without-out (set (s .carriers) k c) n (omega arith))
@@ -56,9 +55,9 @@ live-still s n k c m z l e =
 -- ── An input that is accepted, and what it did ──
 module _ (s : Mapped) (i : Input) (n : Name) where
   abbrev pub e : Event
-  e = record { before = s; input = i; answer = answerIn s i }
+  e = record { before = s .base; input = i; answer = answerIn s i }
 
-  abbrev pub b : base-history.Event
+  abbrev pub b : Event
   b = record { before = s .base; input = i; answer = base-outcome.answerIn (s .base) i }
 
   pub refused-done : (k : ℕ) → eqb (answerIn s i) 0 ≡ false → done k n e ≡ false
@@ -69,8 +68,8 @@ module _ (s : Mapped) (i : Input) (n : Name) where
       go true = refl
       go false = refl
 
-  pub refused-live : eqb (answerIn s i) 0 ≡ false → base-history.isLive (stateAfter s i .base) n ≡ true
-      → base-history.isLive (s .base) n ≡ true
+  pub refused-live : eqb (answerIn s i) 0 ≡ false → isLive (stateAfter s i .base) n ≡ true
+      → isLive (s .base) n ≡ true
   unfolding stateAfter
   refused-live a l = rw a at l
 
@@ -79,19 +78,19 @@ module _ (s : Mapped) (i : Input) (n : Name) where
     unfolding base-outcome.answerIn
     there-too = eq-eqb _ 0 (sym (row-first-is-lowest (i .number) (see (s .base) i)) ∙ accepted-there s i a)
 
-    pub same-done : (k : ℕ) → base-history.done k n b ≡ done k n e
-    unfolding base-history.done done
+    pub same-done : (k : ℕ) → done k n b ≡ done k n e
+    unfolding done
     same-done k = rw (there-too, a)
 
-    pub same-there : base-history.announcedThere n b ≡ announcedThere n e
-    unfolding base-history.announcedThere
+    pub same-there : announcedThere n b ≡ announcedThere n e
+    unfolding announcedThere
     same-there = refl
 
     module _ (q : equalMap s i ≡ true) where
       abbrev mid : State
       mid = base-outcome.stateAfter (s .base) i
 
-      abbrev pub p : base-history.Event
+      abbrev pub p : Event
       p = record { before = mid; input = proceed i; answer = base-outcome.answerIn mid (proceed i) }
 
       twenty : i .number ≡ 20
@@ -105,16 +104,16 @@ module _ (s : Mapped) (i : Input) (n : Name) where
       unfolding done
       done-name d = name-is _ _ (and-r (eqb (i .number) 20 && eqb (answerIn s i) 0) _ d)
 
-      pub five : base-history.done 5 n p ≡ true → done 20 n e ≡ true
-      unfolding base-history.done
+      pub five : done 5 n p ≡ true → done 20 n e ≡ true
+      unfolding done
       five d = is-done (and-r (eqb (base-outcome.answerIn mid (proceed i)) 0) _ d)
 
       pub nothing-else : (k : ℕ) → eqb 20 k ≡ false → done k n e ≡ false
       unfolding done
       nothing-else k d = rw (twenty, d)
 
-      pub proceeds-only : (k : ℕ) → eqb 5 k ≡ false → base-history.done k n p ≡ false
-      unfolding base-history.done
+      pub proceeds-only : (k : ℕ) → eqb 5 k ≡ false → done k n p ≡ false
+      unfolding done
       proceeds-only k d = rw d
 
       -- the records keep their names
@@ -132,10 +131,10 @@ module _ (s : Mapped) (i : Input) (n : Name) where
         unfolding see recordOf nameStands
         found-name = name-is _ _ (where-holds (isNamed (inBytes (i .name))) (s .base .carriers) noCarrier found-lives)
 
-        pub mid-live : base-history.isLive mid n ≡ base-history.isLive (s .base) n
+        pub mid-live : isLive mid n ≡ isLive (s .base) n
         unfolding see
         mid-live =
-            ap (λ u. base-history.isLive u n)
+            ap (λ u. isLive u n)
             (base-step (s .base) i (accepted-there s i a) ∙ ap (λ r. row.enact (r .effect) (s .base)) (row-twenty (i .number) x twenty))
             ∙ live-still (s .base) (x .count) (x .stands) (withMap (x .map) 2 (x .found)) n refl found-lives refl
 
@@ -143,7 +142,7 @@ module _ (s : Mapped) (i : Input) (n : Name) where
         unfolding equalMap
         effect-once = effect-is (i .number) x (codesIn s i) ∙ rw (q, row-twenty (i .number) x twenty)
 
-        pub after-live : base-history.isLive (stateAfter s i .base) n ≡ base-history.isLive (s .base) n
+        pub after-live : isLive (stateAfter s i .base) n ≡ isLive (s .base) n
         unfolding stateAfter see
         after-live =
             rw (a, effect-once)

@@ -18,7 +18,7 @@ use Rattle.rules.specs.declared.row.Effect.{Effect}
 use Rattle.rules.specs.State.{State, recordOf}
 use Rattle.rules.specs.Seen.{Input, isNamed}
 use Rattle.rules.specs.Row as row
-use Rattle.rules.specs.History.{isLive}
+use Rattle.rules.specs.History.{isLive, history}
 use Rattle.rules.specs.Promise.{Live}
 use Rattle.rules.proofs.Names.{name-same}
 use Rattle.rules.proofs.Apt.{Apt}
@@ -28,7 +28,7 @@ use Rattle.maps.specs.State.{Mapped, start}
 use Rattle.maps.specs.Rows.{codesIn}
 use Rattle.maps.specs.Outcome.{rowIn, answerIn, enact, stateAfter}
 use Rattle.maps.specs.Projection.{reached}
-use Rattle.maps.specs.History.{events, history, madeWith}
+use Rattle.maps.specs.History.{events, madeWith}
 use Rattle.maps.proofs.Amended.{accepted-there, apt-amended}
 use Rattle.maps.proofs.SoundRuns.{sound-parts, sound-start, sound-reached}
 

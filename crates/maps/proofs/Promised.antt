@@ -15,6 +15,7 @@ use Rattle.rules.specs.Sound as base-sound
 use Rattle.rules.specs.Seen.{Input, see}
 use Rattle.rules.specs.Outcome as base-outcome
 use Rattle.rules.specs.History as base-history
+use Rattle.rules.specs.History.{Event, isLive, history, done, verified, wasCancelled}
 use Rattle.rules.specs.Promise.{Live}
 use Rattle.rules.proofs.Backed.{Backed}
 use Rattle.rules.proofs.Earned.{each-told, earned}
@@ -25,7 +26,7 @@ use Rattle.maps.specs.State.{Mapped, start}
 use Rattle.maps.specs.Rows.{codesIn}
 use Rattle.maps.specs.Outcome.{answerIn, stateAfter}
 use Rattle.maps.specs.Projection.{reached, equalMap, proceed, standsFor, cutDown}
-use Rattle.maps.specs.History.{Event, events, history, done, verified, wasCancelled, madeWith, matched}
+use Rattle.maps.specs.History.{events, madeWith, matched}
 use Rattle.maps.specs.Promise.{Promise}
 use Rattle.maps.proofs.Projected.{equal-ok, base-sound-run, projected, open-ok-run}
 use Rattle.maps.proofs.Kept.{live-at, none-live, map-made-with}
@@ -38,8 +39,8 @@ module _ (P B : ℕ) (lo : 1 ≤ P) (hi : P ≤ 4) (few : B ≤ 16) where
   abbrev here : List Input → Name → List Event
   here run n = history n (events (start P B) run)
 
-  abbrev there : List Input → Name → List base-history.Event
-  there run n = base-history.history n (base-history.events (base.start P B) (cutDown (start P B) run))
+  abbrev there : List Input → Name → List Event
+  there run n = history n (base-history.events (base.start P B) (cutDown (start P B) run))
 
   -- what document 01 has proved of each record
   backed : (run : List Input) (k : ℕ) → Live (reached (start P B) run .base) k
@@ -54,40 +55,40 @@ module _ (P B : ℕ) (lo : 1 ≤ P) (hi : P ≤ 4) (few : B ≤ 16) where
     s = reached (start P B) earlier
 
     abbrev Before : Type 0
-    Before = base-history.isLive (s .base) n ≡ true → Retold n (there earlier n) (here earlier n)
+    Before = isLive (s .base) n ≡ true → Retold n (there earlier n) (here earlier n)
 
     -- document 01's histories, by what an input stands for
-    abbrev one : List base-history.Event
-    one = b s i n ∷ cond (base-history.isLive (s .base) n) (there earlier n) []
+    abbrev one : List Event
+    one = b s i n ∷ cond (isLive (s .base) n) (there earlier n) []
 
-    there-one : base-history.history n (base-history.events (base.start P B) (i ∷ cutDown (start P B) earlier)) ≡ one
-    unfolding base-history.events base-history.history
+    there-one : history n (base-history.events (base.start P B) (i ∷ cutDown (start P B) earlier)) ≡ one
+    unfolding base-history.events history
     there-one = rw (projected P B lo hi few earlier)
 
-    there-two : base-history.history n (base-history.events (base.start P B) (proceed i ∷ i ∷ cutDown (start P B) earlier))
+    there-two : history n (base-history.events (base.start P B) (proceed i ∷ i ∷ cutDown (start P B) earlier))
         ≡ record {
           before = base-outcome.stateAfter (s .base) i;
           input = proceed i;
           answer = base-outcome.answerIn (base-outcome.stateAfter (s .base) i) (proceed i);
         }
-        ∷ cond (base-history.isLive (base-outcome.stateAfter (s .base) i) n) one []
-    unfolding base-history.events base-history.history base-history.reached
+        ∷ cond (isLive (base-outcome.stateAfter (s .base) i) n) one []
+    unfolding base-history.events history base-history.reached
     there-two = rw (projected P B lo hi few earlier)
 
-    here-one : here (i ∷ earlier) n ≡ e s i n ∷ cond (base-history.isLive (s .base) n) (here earlier n) []
+    here-one : here (i ∷ earlier) n ≡ e s i n ∷ cond (isLive (s .base) n) (here earlier n) []
     unfolding events history
     here-one = refl
 
     -- what an accepted input adds to both
-    as-one : eqb (answerIn s i) 0 ≡ true → Before → Retold n one (e s i n ∷ cond (base-history.isLive (s .base) n) (here earlier n) [])
-    as-one a r = go (base-history.isLive (s .base) n) refl
+    as-one : eqb (answerIn s i) 0 ≡ true → Before → Retold n one (e s i n ∷ cond (isLive (s .base) n) (here earlier n) [])
+    as-one a r = go (isLive (s .base) n) refl
       where
-        go : (w : Bool) → base-history.isLive (s .base) n ≡ w
+        go : (w : Bool) → isLive (s .base) n ≡ w
             → Retold n (b s i n ∷ cond w (there earlier n) []) (e s i n ∷ cond w (here earlier n) [])
         go true l = retold-same n (b s i n) (e s i n) _ _ (same-done s i n a) (same-there s i n a) (r l)
         go false l = retold-same n (b s i n) (e s i n) _ _ (same-done s i n a) (same-there s i n a) (retold-none n)
 
-    module _ (a : eqb (answerIn s i) 0 ≡ true) (q : equalMap s i ≡ true) (l : base-history.isLive (s .base) n ≡ true) (r : Before) where
+    module _ (a : eqb (answerIn s i) 0 ≡ true) (q : equalMap s i ≡ true) (l : isLive (s .base) n ≡ true) (r : Before) where
       h : base-sound.sound (s .base) ≡ true
       h = base-sound-run P B lo hi few earlier
 
@@ -106,7 +107,7 @@ module _ (P B : ℕ) (lo : 1 ≤ P) (hi : P ≤ 4) (few : B ≤ 16) where
 
       was-verified : done 20 n (e s i n) ≡ true → verified n (here earlier n) ≡ true
       was-verified d =
-          r l .verified (subst (λ m. base-history.verified m (there earlier m) ≡ true) (is-n d) (backed earlier k k-live .okId found-ok))
+          r l .verified (subst (λ m. verified m (there earlier m) ≡ true) (is-n d) (backed earlier k k-live .okId found-ok))
 
       codes-equal : equals (getD (s .maps) k noMap) (inMap (i .codes)) ≡ true
       unfolding equalMap codesIn see
@@ -127,29 +128,29 @@ module _ (P B : ℕ) (lo : 1 ≤ P) (hi : P ≤ 4) (few : B ≤ 16) where
           (five s i n a q) (none 6 refl) (only 16 refl) (λ d. sym (same 20) ∙ d) (only 20 refl)
           (rw (same 16, same 5, none 16 refl, none 5 refl)) was-verified is-equal (r l)
 
-    retold-after : Before → base-history.isLive (stateAfter s i .base) n ≡ true → Retold n (there (i ∷ earlier) n) (here (i ∷ earlier) n)
+    retold-after : Before → isLive (stateAfter s i .base) n ≡ true → Retold n (there (i ∷ earlier) n) (here (i ∷ earlier) n)
     unfolding cutDown standsFor
     retold-after r l = rw here-one (go (eqb (answerIn s i) 0) refl (equalMap s i) refl)
       where
         go : (w : Bool) → eqb (answerIn s i) 0 ≡ w → (v : Bool) → equalMap s i ≡ v
-            → Retold n (base-history.history n (base-history.events (base.start P B)
+            → Retold n (history n (base-history.events (base.start P B)
             (cond w (cond v (proceed i ∷ i ∷ []) (i ∷ [])) [] ++ cutDown (start P B) earlier)))
-            (e s i n ∷ cond (base-history.isLive (s .base) n) (here earlier n) [])
+            (e s i n ∷ cond (isLive (s .base) n) (here earlier n) [])
         go true a true q =
-            let y : base-history.isLive (s .base) n ≡ true = sym (after-live s i n a q (base-sound-run P B lo hi few earlier)) ∙ l in
+            let y : isLive (s .base) n ≡ true = sym (after-live s i n a q (base-sound-run P B lo hi few earlier)) ∙ l in
             rw (there-two, mid-live s i n a q (base-sound-run P B lo hi few earlier), y) (as-two a q y r)
         go true a false q = rw there-one (as-one a r)
         go false a v q =
-            let y : base-history.isLive (s .base) n ≡ true = refused-live s i n a l in
+            let y : isLive (s .base) n ≡ true = refused-live s i n a l in
             rw y (retold-refused n (e s i n) (there earlier n) (here earlier n) (refused-done s i n 6 a) (r y))
 
-  retold : (run : List Input) (n : Name) → base-history.isLive (reached (start P B) run .base) n ≡ true
+  retold : (run : List Input) (n : Name) → isLive (reached (start P B) run .base) n ≡ true
       → Retold n (there run n) (here run n)
   unfolding reached
   retold [] n l = clash l (none-live P B n)
   retold (i ∷ earlier) n l = retold-after earlier i n (retold earlier n) l
 
-  not-cancelled : (n : Name) (d : List base-history.Event) (h : List Event) → Retold n d h → base-history.wasCancelled n d ≡ false
+  not-cancelled : (n : Name) (d h : List Event) → Retold n d h → wasCancelled n d ≡ false
       → wasCancelled n h ≡ false
   not-cancelled n d h r z = go (wasCancelled n h) refl
     where
@@ -174,5 +175,5 @@ module _ (P B : ℕ) (lo : 1 ≤ P) (hi : P ≤ 4) (few : B ≤ 16) where
   }
     where
       lives : (k : ℕ) → Live (reached (start P B) run .base) k
-          → base-history.isLive (reached (start P B) run .base) (recordOf (reached (start P B) run .base) k .name) ≡ true
+          → isLive (reached (start P B) run .base) (recordOf (reached (start P B) run .base) k .name) ≡ true
       lives k l = live-at (reached (start P B) run .base) k l

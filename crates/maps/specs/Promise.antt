@@ -8,10 +8,11 @@ use Rattle.records.specs.declared.carrier.Carrier.{Carrier}
 use Rattle.records.specs.Carriers.{inBuffer, isOpen, inAccess}
 use Rattle.rules.specs.State.{recordOf}
 use Rattle.rules.specs.Seen.{Input}
+use Rattle.rules.specs.History.{Event, history, verified, wasCancelled, released}
 use Rattle.rules.specs.Promise.{Live, Orderly}
 use Rattle.maps.specs.State.{start}
 use Rattle.maps.specs.Projection.{reached}
-use Rattle.maps.specs.History.{Event, events, history, verified, wasCancelled, released, matched}
+use Rattle.maps.specs.History.{events, matched}
 
 -- What a carrier has behind it, by its history h.
 pub record Earned (h : List Event) (c : Carrier) : Type 0 where
