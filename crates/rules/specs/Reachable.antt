@@ -160,7 +160,7 @@ pairOf l = record { row = l .row; answer = l .answer }
 abbrev pub pairs : List Pair
 pairs = map pairOf table
 
-abbrev answers : ℕ → List ℕ → List Pair
+abbrev pub answers : ℕ → List ℕ → List Pair
 answers row [] = []
 answers row (n ∷ ns) = record { row = row; answer = n } ∷ answers row ns
 

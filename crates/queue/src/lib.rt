@@ -1,0 +1,2 @@
+// Request P5, a queue for CarrierOut: what it adds to the tool's state.
+pub mod request;
