@@ -1,10 +1,11 @@
 -- What an input that is accepted below leaves of a carrier in the buffer and of a port that is kept free.
-use Prim.Native.Nat.{ℕ}
+use Prim.Native.Nat.{ℕ, _<_}
 use native.Mathlib.Decide.{ℕ-discrete}
 use mathlib.Core.Path.{_≡_, refl, ap, sym, subst, _∙_}
 use mathlib.Core.Logic.{_≢_}
 use mathlib.Core.Bool.{Bool, true, false, cond, _&&_}
-use lib.ListN.{length, length-set}
+use mathlib.Core.List.{List}
+use lib.ListN.{length, getD, length-set}
 use lib.Dec.{eqb}
 use borrow.Author.Tests.{eqb-true, eq-eqb}
 use Rattle.lists.proofs.Bools.{cond-ind}
@@ -29,11 +30,13 @@ use Rattle.maps.specs.Rows.{codesIn}
 use Rattle.maps.specs.Outcome as maps
 use Rattle.maps.proofs.Amended.{atOnce, grounds-are, effect-is, first-is-lowest, accepted-there, apt-amended}
 use Rattle.maps.proofs.SoundRuns as maps-runs
-use Rattle.queue.specs.Requests.{carrierOf, mayLeave}
+use Rattle.queue.specs.declared.request.Request.{Request}
+use Rattle.queue.specs.Requests.{noRequest, isStarted, carrierOf, mayLeave}
 use Rattle.queue.specs.Sound.{keptFree}
 use Rattle.queue.proofs.Stored.{Spares, spares}
 use Rattle.queue.proofs.Free.{leaves}
 use Rattle.queue.proofs.After.{stored-live, stored-named, stored-place, stored-still, shut-still}
+use Rattle.queue.proofs.Lines.{Line, stored-at, shut-at, kept-at, line-moved}
 
 pub base-facts : (s : Mapped) → maps-sound.sound s ≡ true → Facts (s .base)
 base-facts s h = facts (s .base) (maps-runs.sound-parts s h .base)
@@ -125,3 +128,20 @@ module _ (s : Mapped) (i : Input) (h : maps-sound.sound s ≡ true) (a : eqb (ma
   pub ports-below : length (maps.stateAfter s i .base .ports) ≡ length (s .base .ports)
   unfolding row.enact
   ports-below = rw state-below (length-set (s .base .ports) _ _)
+
+-- ── The queue under it ──
+-- an input that is no harm to a request: no CarrierOut of its carrier, and, where it is started, no Open of it, and neither
+-- CancelReservationAtPort nor LoadStart at its port
+pub record Safe (i : Input) (r : Request) : Type 0 where
+  pub out : i .number ≡ 7 → r .name ≢ inBytes (i .name)
+  pub opens : isStarted r ≡ true → i .number ≡ 19 → r .name ≢ inBytes (i .name)
+  pub frees : isStarted r ≡ true → i .number ≡ 12 → narrow (i .port) ≢ r .port
+  pub loads : isStarted r ≡ true → i .number ≡ 13 → narrow (i .port) ≢ r .port
+
+pub line-below : (s : Mapped) (i : Input) → maps-sound.sound s ≡ true → eqb (maps.answerIn s i) 0 ≡ true → (q : List Request)
+    → ((k : ℕ) → k < length q → Safe i (getD q k noRequest)) → Line (s .base) q → Line (maps.stateAfter s i .base) q
+line-below s i h a q safe l =
+    line-moved (s .base) (maps.stateAfter s i .base) q l (ports-below s i h a)
+    (λ k b. stored-after s i h a _ (stored-at (s .base) q l k b) (safe k b .out))
+    (λ k b e. shut-after s i h a _ (stored-at (s .base) q l k b) (safe k b .out) (safe k b .opens e) (shut-at (s .base) q l k b e))
+    (λ k b e. free-after s i h a _ (kept-at (s .base) q l k b e) (safe k b .frees e) (safe k b .loads e))

@@ -72,7 +72,7 @@ module _ (s : State) (i : Input) (f : Facts s) (p : ℕ) (k : keptFree (portOf s
   not-zero z = clash (ap (λ p. keptFree (portOf s p)) z ∙ k) (ap keptFree (none-zero s f) ∙ no-port-not-free)
 
   -- no record is tied to it
-  nobody-there : (j : ℕ) → j < length (s .carriers) → recordOf s j .port ≢ p
+  pub nobody-there : (j : ℕ) → j < length (s .carriers) → recordOf s j .port ≢ p
   nobody-there j b z =
       clash (f .records j b .named)
       (ap holdsName (sym (f .kept j b (λ o. not-zero (sym o ∙ z))) ∙ ap (λ p. portOf s p .tie) z ∙ free .tie) ∙ nobody)

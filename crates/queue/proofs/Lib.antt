@@ -3,4 +3,7 @@ pub mod Stored
 pub mod Free
 pub mod Texts
 pub mod After
+pub mod Lines
 pub mod Below
+pub mod Walk
+pub mod Outs
