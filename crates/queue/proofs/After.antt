@@ -17,7 +17,7 @@ use Rattle.lists.proofs.Bools.{clash, cond-ind}
 use Rattle.lists.proofs.Tests.{where-one, where-holds}
 use Rattle.records.specs.declared.name.Name.{Name}
 use Rattle.records.specs.declared.carrier.Carrier.{Carrier}
-use Rattle.records.specs.Names.{inBytes, sameName}
+use Rattle.records.specs.Names.{sameName, holdsName}
 use Rattle.records.specs.Carriers.{noCarrier, inBuffer}
 use Rattle.rules.specs.declared.row.Effect.{Effect}
 use Rattle.rules.specs.State.{State, portOf, recordOf}
@@ -87,6 +87,9 @@ module _ (s : State) where
     pub stored-named : recordOf s (nameStands s n) .name ≡ n
     unfolding recordOf nameStands
     stored-named = name-is _ _ (where-holds (isNamed n) (s .carriers) noCarrier stored-live)
+
+    pub name-held : Facts s → holdsName n ≡ true
+    name-held f = subst (λ m. holdsName m ≡ true) stored-named (f .records (nameStands s n) stored-live .named)
 
     pub stored-place : recordOf s (nameStands s n) .place ≡ 2
     unfolding carrierOf

@@ -7,3 +7,4 @@ pub mod Lines
 pub mod Below
 pub mod Walk
 pub mod Outs
+pub mod SoundRuns

@@ -46,7 +46,7 @@ use Rattle.queue.specs.Sound.{keptFree}
 use Rattle.queue.specs.Rows.{textOf}
 use Rattle.queue.proofs.Free.{Free, free-is, nobody-there}
 use Rattle.queue.proofs.Texts.{text-in-bytes, text-is-name}
-use Rattle.queue.proofs.After.{stored-live, stored-named}
+use Rattle.queue.proofs.After.{stored-live, name-held}
 use Rattle.queue.proofs.Below.{base-facts, answer-below, state-below, apt-below}
 
 -- ── OutStart: row 11 ──
@@ -188,9 +188,7 @@ module _ (s : Mapped) (port : ℕ) (n : Name) (h : maps-sound.sound s ≡ true)
   y = see mid comes
 
   holds-name : holdsName n ≡ true
-  holds-name =
-      subst (λ m. holdsName m ≡ true) (stored-named (s .base) n stored)
-      (done .records (nameStands (s .base) n) (stored-live (s .base) n stored) .named)
+  holds-name = name-held (s .base) n stored done
 
   name-then : y .name ≡ n
   unfolding see
