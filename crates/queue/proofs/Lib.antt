@@ -8,3 +8,7 @@ pub mod Below
 pub mod Walk
 pub mod Outs
 pub mod SoundRuns
+pub mod SoundTools
+pub mod Projected
+pub mod Same
+pub mod Promised

@@ -4,5 +4,6 @@ pub mod Sound
 pub mod Rows
 pub mod Outcome
 pub mod Projection
+pub mod Promise
 pub mod Cases
 pub mod Reachable
