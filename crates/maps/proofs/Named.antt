@@ -18,7 +18,7 @@ use Rattle.maps.specs.Outcome.{rowIn, answerIn, stateAfter, refused, giv
 use Rattle.maps.proofs.Amended.{grounds-are}
 
 module _ (i : Input) where
-  row-ignores : (s : Mapped) (name : List ℕ) → takesName (i .number) ≡ false → rowIn s (called name i) ≡ rowIn s i
+  pub row-ignores : (s : Mapped) (name : List ℕ) → takesName (i .number) ≡ false → rowIn s (called name i) ≡ rowIn s i
   unfolding rowOf takesName
   row-ignores s name f =
       let other = other-number (i .number) in
@@ -29,7 +29,7 @@ module _ (i : Input) where
   given-ignores t name f = rw (row-ignores (stateOf t) name f)
 
   module _ (h : isName (i .name) ≡ false) (t : takesName (i .number) ≡ true) (m : nameMissing i ≡ false) where
-    answers-one : (s : Mapped) → answerIn s i ≡ 1
+    pub answers-one : (s : Mapped) → answerIn s i ≡ 1
     unfolding answerIn see nameMissing any
     answers-one s =
         let x = see (s .base) i in

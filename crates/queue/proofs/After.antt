@@ -88,6 +88,10 @@ module _ (s : State) where
     unfolding recordOf nameStands
     stored-named = name-is _ _ (where-holds (isNamed n) (s .carriers) noCarrier stored-live)
 
+    pub carrier-named : carrierOf s n .name ≡ n
+    unfolding carrierOf
+    carrier-named = stored-named
+
     pub name-held : Facts s → holdsName n ≡ true
     name-held f = subst (λ m. holdsName m ≡ true) stored-named (f .records (nameStands s n) stored-live .named)
 
@@ -100,7 +104,7 @@ module _ (s : State) (e : Effect) (j : ℕ) (b : Live s j) (g : j ≢ e .goes) w
   abbrev after : Carrier
   after = getD (set (s .carriers) (e .changes) (e .next)) j noCarrier
 
-  stands-after : (k : ℕ) × Live (row.enact e s) k × (recordOf (row.enact e s) k ≡ after)
+  pub stands-after : (k : ℕ) × Live (row.enact e s) k × (recordOf (row.enact e s) k ≡ after)
   unfolding row.enact recordOf
   stands-after =
       let c = set (s .carriers) (e .changes) (e .next) in

@@ -12,3 +12,6 @@ pub mod SoundTools
 pub mod Projected
 pub mod Same
 pub mod Promised
+pub mod Places
+pub mod Lined
+pub mod Ended

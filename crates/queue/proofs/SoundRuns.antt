@@ -223,7 +223,7 @@ module _ (s : Queued) (i : Input) (p : Sound s) where
         let gs = outStart (baseOf s) q x i .grounds in
         ltb-true k (length q) (clear gs refl (cleared gs refl g) .0)
 
-    is-ready : isReady (baseOf s) (x .port) taken ≡ true
+    pub is-ready : isReady (baseOf s) (x .port) taken ≡ true
     is-ready = where-holds (isReady (baseOf s) (x .port)) q noRequest taken-in
 
     pub taken-port : taken .port ≡ narrow (i .port)
@@ -270,11 +270,11 @@ module _ (s : Queued) (i : Input) (p : Sound s) where
     pub ending-started : isStarted ending ≡ true
     ending-started = and-r (eqb (ending .port) (x .port)) _ is-ending
 
-    within : between 1 (narrow (i .port)) (length (baseOf s .ports)) ≡ true
+    pub within : between 1 (narrow (i .port)) (length (baseOf s .ports)) ≡ true
     unfolding see
     within = given
 
-    kept-there : keptFree (portOf (baseOf s) (narrow (i .port))) ≡ true
+    pub kept-there : keptFree (portOf (baseOf s) (narrow (i .port))) ≡ true
     kept-there = rw ending-port at (kept-at (baseOf s) q l m ending-in ending-started)
 
     abbrev ends : Input

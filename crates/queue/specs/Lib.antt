@@ -5,5 +5,6 @@ pub mod Rows
 pub mod Outcome
 pub mod Projection
 pub mod Promise
+pub mod Dispatch
 pub mod Cases
 pub mod Reachable

@@ -16,12 +16,12 @@ use Rattle.rules.proofs.Walk.{walk}
 use Rattle.rules.proofs.Lowest.{numberOf, row-first-is-lowest}
 
 -- the numbers that a row's grounds give
-abbrev numbersOf : List Ground → List ℕ
+abbrev pub numbersOf : List Ground → List ℕ
 numbersOf [] = []
 numbersOf (g ∷ gs) = numberOf g ∷ numbersOf gs
 
 -- what is answered is 0 or one of them
-among : (f : ℕ → Bool) (gs : List Ground) → f 0 ≡ true → every f (numbersOf gs) ≡ true → f (judge gs) ≡ true
+pub among : (f : ℕ → Bool) (gs : List Ground) → f 0 ≡ true → every f (numbersOf gs) ≡ true → f (judge gs) ≡ true
 unfolding every
 among f [] z e = z
 among f (when true n ∷ gs) z e = and-l (f n) _ e

@@ -60,7 +60,7 @@ module _ (n : ℕ) where
 abbrev pub givesOne : Ground → Bool
 givesOne g = eqb (given g) 1
 
-lower-one : (m : ℕ) → lower m 1 ≡ 1
+pub lower-one : (m : ℕ) → lower m 1 ≡ 1
 unfolding lower
 lower-one m = go (eqb m 0) refl (leb m 1) refl
   where
