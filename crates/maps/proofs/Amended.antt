@@ -104,7 +104,7 @@ one-first : (b : Bool) (l : ℕ) → eqb l 0 ≡ b → 1 ≡ cond b 1 (cond (leb
 one-first true l e = refl
 one-first false l e = let n = eqb-false l 0 e in rw (le-leb 1 l (omega arith))
 
-lower-one : (l : ℕ) → 1 ≡ lower 1 l
+pub lower-one : (l : ℕ) → 1 ≡ lower 1 l
 unfolding lower
 lower-one l = one-first (eqb l 0) l refl
 

@@ -39,8 +39,8 @@ use Rattle.queue.specs.Sound.{sound}
 use Rattle.queue.specs.Rows.{Row, rowOf, outStart, outDone, comesOut}
 use Rattle.queue.specs.Outcome.{rowIn, answersIn, answerIn, enact, stateAfter}
 use Rattle.queue.specs.Projection.{reached}
-use Rattle.queue.specs.Dispatch.{isUnderWay, isDone, noneDone, TakesOldest, HandedOut}
-use Rattle.queue.proofs.Lines.{wide-at, port-at, stored-at, shut-at, names-at, ports-at}
+use Rattle.queue.specs.Dispatch.{isUnderWay, isDone, noneDone, TakesOldest, HandedOut, HeldFor}
+use Rattle.queue.proofs.Lines.{wide-at, port-at, stored-at, shut-at, kept-at, names-at, ports-at}
 use Rattle.queue.proofs.Places.{first-one}
 use Rattle.queue.proofs.After.{stored-live, carrier-named, found-again, stands-after}
 use Rattle.queue.proofs.Below.{base-facts}
@@ -257,6 +257,23 @@ module _ (s : Queued) (i : Input) (h : sound s ≡ true) (z : i .number ≡ 28) 
     free = rw queue-left nobody-left;
   }
 
+-- what soundness says of a request that is under way
+held : (s : Queued) → sound s ≡ true → (n : Name) (p : ℕ) → isUnderWay n p (s .queue) ≡ true → HeldFor s n p
+unfolding isUnderWay
+held s h n p e =
+    let t = any-found (λ r. isOf n r && startedTo p r) (s .queue) noRequest e in
+    let r = getD (s .queue) (t .0) noRequest in
+    let l = sound-parts s h .line in
+    let m : r .name ≡ n = name-is _ _ (and-l _ _ (t .2)) in
+    let o = and-r (isOf n r) _ (t .2) in
+    let a : r .port ≡ p = eqb-true _ p (and-l _ _ o) in
+    let b : isStarted r ≡ true = and-r (eqb (r .port) p) _ o in
+    record {
+      stored = rw m at (stored-at (baseOf s) (s .queue) l (t .0) (t .1));
+      shut = rw m at (shut-at (baseOf s) (s .queue) l (t .0) (t .1) b);
+      kept = rw a at (kept-at (baseOf s) (s .queue) l (t .0) (t .1) b);
+    }
+
 -- ── Runs ──
 module _ (s : Queued) (h : sound s ≡ true) (n : Name) (p : ℕ) (e : isUnderWay n p (s .queue) ≡ true) where
   -- from every state where a request is started it stays so, whatever is sent, until OutDone
@@ -266,6 +283,10 @@ module _ (s : Queued) (h : sound s ≡ true) (n : Name) (p : ℕ) (e : isUnderWa
   stays-under-way (i ∷ earlier) d =
       under-way-after (reached s earlier) i n p (sound-parts (reached s earlier) (sound-reached s h earlier) .line)
       (stays-under-way earlier (and-r (not (isDone p i)) _ d)) (not-true _ (and-l _ _ d))
+
+  -- nothing takes its carrier or its port meanwhile
+  pub held-meanwhile : (run : List Input) → noneDone p run ≡ true → HeldFor (reached s run) n p
+  held-meanwhile run d = held (reached s run) (sound-reached s h run) n p (stays-under-way run d)
 
   -- and OutDone is accepted then
   pub ends-by-out-done : (run : List Input) → noneDone p run ≡ true → (i : Input) → isDone p i ≡ true → answerIn (reached s run) i ≡ 0

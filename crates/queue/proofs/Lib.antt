@@ -15,3 +15,5 @@ pub mod Promised
 pub mod Places
 pub mod Lined
 pub mod Ended
+pub mod Allowed
+pub mod Named

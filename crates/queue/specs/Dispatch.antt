@@ -9,14 +9,15 @@ use Rattle.lists.specs.Lists.{any, every, whereIs}
 use Rattle.records.specs.declared.name.Name.{Name}
 use Rattle.records.specs.Names.{inBytes, sameName}
 use Rattle.records.specs.Ports.{handedOut}
-use Rattle.records.specs.Carriers.{takenOut}
+use Rattle.records.specs.Carriers.{inBuffer, takenOut}
 use Rattle.records.specs.Fields.{withReserved}
 use Rattle.rules.specs.State.{portOf}
 use Rattle.rules.specs.Seen.{Input, narrow}
 use Rattle.queue.specs.declared.request.Request.{Request}
-use Rattle.queue.specs.Requests.{noRequest, begun, isOf, waitsOf, startedTo, isReady, isQueued, carrierOf}
+use Rattle.queue.specs.Requests.{noRequest, isOf, waitsOf, startedTo, isReady, isQueued, carrierOf, mayLeave}
 use Rattle.queue.specs.State.{Queued, baseOf}
-use Rattle.queue.specs.Outcome.{answerIn, stateAfter}
+use Rattle.queue.specs.Sound.{keptFree}
+use Rattle.queue.specs.Outcome.{stateAfter}
 
 -- ── An entry keeps its place until it is started, dropped or done ──
 -- the request of m stands ahead of that of n
@@ -63,3 +64,10 @@ pub record HandedOut (s : Queued) (n : Name) (p : ℕ) (after : Queued) : Type 0
   pub port : portOf (baseOf after) p ≡ handedOut n (withReserved 0 (portOf (baseOf s) p))
   pub carrier : carrierOf (baseOf after) n ≡ takenOut p (carrierOf (baseOf s) n)
   pub free : isQueued n (after .queue) ≡ false
+
+-- Until then nothing takes its carrier or its port: the one is in the buffer, closed and not in access, the other untied, reserved and
+-- READY TO LOAD.
+pub record HeldFor (s : Queued) (n : Name) (p : ℕ) : Type 0 where
+  pub stored : inBuffer (carrierOf (baseOf s) n) ≡ true
+  pub shut : mayLeave (carrierOf (baseOf s) n) ≡ true
+  pub kept : keptFree (portOf (baseOf s) p) ≡ true

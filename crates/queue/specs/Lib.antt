@@ -8,3 +8,4 @@ pub mod Promise
 pub mod Dispatch
 pub mod Cases
 pub mod Reachable
+pub mod Named
