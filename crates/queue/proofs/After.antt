@@ -1,44 +1,34 @@
 -- A carrier after an effect, found again by its name; and what an input that is accepted below leaves of a carrier in the buffer and of a
 -- port that is kept free.
-use Prim.Native.Nat.{ℕ, zero, suc, _<_, _≤_, suc-le-suc}
+use Prim.Native.Nat.{ℕ, zero, suc, _<_, suc-le-suc}
 use native.Mathlib.Nat.{le-of-suc-le-suc}
 use native.Mathlib.Omega.{arith}
 use native.Mathlib.Decide.{ℕ-discrete}
 use mathlib.Core.Path.{_≡_, refl, ap, sym, subst, _∙_}
 use mathlib.Core.Logic.{_≢_}
-use mathlib.Core.Bool.{Bool, true, false, cond, _&&_}
+use mathlib.Core.Bool.{Bool, true, false}
 use mathlib.Core.List.{List, [], _∷_, _++_}
 use lib.ListN.{length, getD, set, length-set, List·getD-eq-default}
 use lib.Seq.{getD-set-same, getD-set-other}
-use lib.Dec.{eqb, ltb}
+use lib.Dec.{ltb}
 use borrow.Author.Tests.{eqb-true, eq-eqb, ltb-true, ltb-false}
-use Rattle.lists.specs.Lists.{whereIs, without, withNew}
-use Rattle.lists.proofs.Bools.{clash, cond-ind}
+use Rattle.lists.specs.Lists.{without, withNew}
+use Rattle.lists.proofs.Bools.{clash}
 use Rattle.lists.proofs.Tests.{where-one, where-holds}
 use Rattle.records.specs.declared.name.Name.{Name}
 use Rattle.records.specs.declared.carrier.Carrier.{Carrier}
 use Rattle.records.specs.Names.{sameName, holdsName}
 use Rattle.records.specs.Carriers.{noCarrier, inBuffer}
 use Rattle.rules.specs.declared.row.Effect.{Effect}
-use Rattle.rules.specs.State.{State, portOf, recordOf}
-use Rattle.rules.specs.Seen.{Input, isNamed, nameStands, narrow, see}
+use Rattle.rules.specs.State.{State, recordOf}
+use Rattle.rules.specs.Seen.{isNamed, nameStands}
 use Rattle.rules.specs.Row as row
-use Rattle.rules.specs.Rows as base
 use Rattle.rules.specs.Promise.{Live}
 use Rattle.rules.proofs.Names.{name-is, name-same}
 use Rattle.rules.proofs.Apt.{Apt}
-use Rattle.rules.proofs.SoundParts.{Facts, facts}
-use Rattle.rules.proofs.Keep.{port-after, other-port-after}
-use Rattle.maps.specs.State.{Mapped}
-use Rattle.maps.specs.Sound as maps-sound
-use Rattle.maps.specs.Rows.{codesIn}
-use Rattle.maps.specs.Outcome as maps
-use Rattle.maps.proofs.Amended.{atOnce, effect-is, accepted-there, apt-amended}
-use Rattle.maps.proofs.SoundRuns as maps-runs
+use Rattle.rules.proofs.SoundParts.{Facts}
 use Rattle.queue.specs.Requests.{carrierOf, mayLeave}
-use Rattle.queue.specs.Sound.{keptFree}
-use Rattle.queue.proofs.Stored.{Spares, spares}
-use Rattle.queue.proofs.Free.{leaves}
+use Rattle.queue.proofs.Stored.{Spares}
 
 -- ── Positions in a list of which one element goes, or to which one comes ──
 module _ {A : Type 0} (d : A) where
@@ -133,8 +123,8 @@ module _ (s : State) (e : Effect) (a : Apt s e) (f : Facts (row.enact e s)) (o :
       let t = stands-after s e j b (k .here) in
       found-again (row.enact e s) f n (t .0) (t .1)
       (ap (λ (c : Carrier). c .name) (t .2)
-      ∙ after-is s e j b (k .here) (λ c. c .name ≡ n) (λ z. a .named (rw z at b) ∙ ap (λ i. recordOf s i .name) (sym z) ∙ stored-named s n h)
-      (stored-named s n h))
+      ∙ after-is s e j b (k .here) (λ c. c .name ≡ n)
+      (λ z. a .named (rw z at b) ∙ ap (λ i. recordOf s i .name) (sym z) ∙ stored-named s n h) (stored-named s n h))
       ∙ t .2
 
   pub stored-still : inBuffer (carrierOf (row.enact e s) n) ≡ true

@@ -2,7 +2,6 @@
 use Prim.Native.Nat.{ℕ}
 use native.Mathlib.Omega.{arith}
 use mathlib.Core.Path.{_≡_, refl, ap, sym, subst, _∙_}
-use mathlib.Core.Logic.{_≢_, _⊎_, inl, inr}
 use mathlib.Core.Bool.{Bool, true, false, not, cond, _&&_, _||_}
 use mathlib.Core.List.{List, [], _∷_}
 use lib.ListN.{getD}
@@ -34,8 +33,8 @@ use Rattle.queue.specs.declared.request.Request.{Request}
 use Rattle.queue.specs.Requests.{noRequest, startedTo, startedStands}
 use Rattle.queue.specs.State.{Queued, baseOf}
 use Rattle.queue.specs.Sound.{sound}
-use Rattle.queue.specs.Rows.{Row, passedOn, cancelCarrier, carrierOut, atStartedPort, openRow, outStart, outDone, comesOut}
-use Rattle.queue.specs.Rows.{cancelCarrierOut, cancelAllCarrierOut}
+use Rattle.queue.specs.Rows.{Row, passedOn, cancelCarrier, carrierOut, cancelReservationAtPort, loadStart, openRow}
+use Rattle.queue.specs.Rows.{outStart, outDone, comesOut, cancelCarrierOut, cancelAllCarrierOut}
 use Rattle.queue.specs.Outcome.{rowIn, answersIn, answerIn}
 use Rattle.queue.specs.Reachable.{isOurs, mayAnswer}
 use Rattle.queue.proofs.SoundRuns.{Sound, sound-parts, done-zero}
@@ -102,9 +101,16 @@ module _ (row n m : ℕ) where
 plain-may : (n m : ℕ) → Plain n → base.mayAnswer n m ≡ true → mayAnswer n m ≡ true
 unfolding mayAnswer isOurs any
 plain-may n m p e =
-    rw (ne-eqb 7 n (λ z. p .notSeven (sym z)), ne-eqb 12 n (λ z. p .notTwelve (sym z)), ne-eqb 13 n (λ z. p .notThirteen (sym z)),
-    ne-eqb 19 n (λ z. p .notNineteen (sym z)), ne-eqb 27 n (λ z. p .notOutStart (sym z)), ne-eqb 28 n (λ z. p .notOutDone (sym z)),
-    ne-eqb 29 n (λ z. p .notCancel (sym z)), ne-eqb 30 n (λ z. p .notCancelAll (sym z))) e
+    rw (
+      ne-eqb 7 n (λ z. p .notSeven (sym z)),
+      ne-eqb 12 n (λ z. p .notTwelve (sym z)),
+      ne-eqb 13 n (λ z. p .notThirteen (sym z)),
+      ne-eqb 19 n (λ z. p .notNineteen (sym z)),
+      ne-eqb 27 n (λ z. p .notOutStart (sym z)),
+      ne-eqb 28 n (λ z. p .notOutDone (sym z)),
+      ne-eqb 29 n (λ z. p .notCancel (sym z)),
+      ne-eqb 30 n (λ z. p .notCancelAll (sym z)),
+    ) e
 
 -- ── Row by row ──
 module _ (s : Queued) (i : Input) (p : Sound s) where
@@ -138,16 +144,16 @@ module _ (s : Queued) (i : Input) (p : Sound s) where
   unfolding lowest lower mayAnswer isOurs any
   six-may z = rw (one-below i) (below-at 6 z)
 
-  twelve-may : i .number ≡ 12 → May 12 (atStartedPort q x i)
+  twelve-may : i .number ≡ 12 → May 12 (cancelReservationAtPort q x i)
   unfolding mayAnswer isOurs any every
   twelve-may z =
-      passed-may 12 (atStartedPort q x i .grounds) i (own-may 12 (atStartedPort q x i .grounds) refl refl refl)
+      passed-may 12 (cancelReservationAtPort q x i .grounds) i (own-may 12 (cancelReservationAtPort q x i .grounds) refl refl refl)
       (from-base 12 12 _ refl refl (below-at 12 z))
 
-  thirteen-may : i .number ≡ 13 → May 13 (atStartedPort q x i)
+  thirteen-may : i .number ≡ 13 → May 13 (loadStart q x i)
   unfolding mayAnswer isOurs any every
   thirteen-may z =
-      passed-may 13 (atStartedPort q x i .grounds) i (own-may 13 (atStartedPort q x i .grounds) refl refl refl)
+      passed-may 13 (loadStart q x i .grounds) i (own-may 13 (loadStart q x i .grounds) refl refl refl)
       (from-base 13 13 _ refl refl (below-at 13 z))
 
   open-may : i .number ≡ 19 → May 19 (openRow q x i)
@@ -208,8 +214,8 @@ module _ (s : Queued) (i : Input) (p : Sound s) where
   rows-may = walk (May (i .number)) (i .number) (baseOf s) q x i (record {
     cancelCarrier = λ z. at-number (cancelCarrier q x i) 6 z (six-may z);
     carrierOut = λ z. at-number (carrierOut q x) 7 z out-may;
-    cancelReservation = λ z. at-number (atStartedPort q x i) 12 z (twelve-may z);
-    loadStart = λ z. at-number (atStartedPort q x i) 13 z (thirteen-may z);
+    cancelReservationAtPort = λ z. at-number (cancelReservationAtPort q x i) 12 z (twelve-may z);
+    loadStart = λ z. at-number (loadStart q x i) 13 z (thirteen-may z);
     openRow = λ z. at-number (openRow q x i) 19 z (open-may z);
     outStart = λ z. at-number (outStart (baseOf s) q x i) 27 z start-may;
     outDone = λ z. at-number (outDone q x i) 28 z done-may;

@@ -1,13 +1,12 @@
 -- What an input that is accepted below leaves of a carrier in the buffer and of a port that is kept free.
 use Prim.Native.Nat.{ℕ, _<_}
 use native.Mathlib.Decide.{ℕ-discrete}
-use mathlib.Core.Path.{_≡_, refl, ap, sym, subst, _∙_}
+use mathlib.Core.Path.{_≡_, sym, subst, _∙_}
 use mathlib.Core.Logic.{_≢_}
 use mathlib.Core.Bool.{Bool, true, false, cond, _&&_}
 use mathlib.Core.List.{List}
 use lib.ListN.{length, getD, length-set}
 use lib.Dec.{eqb}
-use borrow.Author.Tests.{eqb-true, eq-eqb}
 use Rattle.lists.proofs.Bools.{cond-ind}
 use Rattle.records.specs.declared.name.Name.{Name}
 use Rattle.records.specs.Names.{inBytes}
@@ -15,7 +14,6 @@ use Rattle.records.specs.Carriers.{inBuffer}
 use Rattle.rules.specs.declared.row.Seen.{Seen}
 use Rattle.rules.specs.declared.row.Effect.{Effect}
 use Rattle.rules.specs.State.{State, portOf, recordOf}
-use Rattle.rules.specs.Sound as base-sound
 use Rattle.rules.specs.Seen.{Input, nameStands, narrow, see}
 use Rattle.rules.specs.Row as row
 use Rattle.rules.specs.Row.{judge}

@@ -1,7 +1,7 @@
 -- The runs give what they are there to show, and each pair of row and answer that the request changes or adds is among them.
 use mathlib.Core.Path.{_≡_, refl}
 use mathlib.Core.Bool.{true}
-use mathlib.Core.List.{List, map}
+use mathlib.Core.List.{map}
 use Rattle.lists.specs.Lists.{every, any, howMany, whereIs, without, fill, sameList}
 use Rattle.records.specs.Names.{isName, inBytes, sameName}
 use Rattle.records.specs.Maps.{isMap, inMap}
@@ -18,7 +18,7 @@ use Rattle.maps.specs.Expected.{isExpected, equals, carries, newMap}
 use Rattle.maps.specs.Rows as maps-rows
 use Rattle.maps.specs.Outcome as maps
 use Rattle.maps.specs.Projection as maps-runs
-use Rattle.queue.specs.Requests.{carrierOf, mayLeave, allDropped}
+use Rattle.queue.specs.Requests.{carrierOf, mayLeave, only}
 use Rattle.queue.specs.Rows.{untilZero, rowOf}
 use Rattle.queue.specs.Outcome.{answersIn, answerIn, stateAfter}
 use Rattle.queue.specs.Cases.{Line, Result, smooth, after, resultOf, cases}
@@ -36,7 +36,7 @@ unfolding every any howMany whereIs without fill sameList isName inBytes sameNam
     takesUnknownPod canProceed canCancel cancelAt cancelPort failed elsewhere matching displaced base.rowOf
     reportIf tieNumber byPort each byCarrier differences followed isExpected equals carries newMap
     maps-rows.codesIn maps-rows.rowOf maps.answerIn maps.stateAfter maps-runs.reached
-    carrierOf mayLeave allDropped untilZero rowOf answersIn answerIn stateAfter smooth after resultOf
+    carrierOf mayLeave only untilZero rowOf answersIn answerIn stateAfter smooth after resultOf
 all-shown = refl
 
 pub all-allowed : every (shownBy cases) allowed ≡ true

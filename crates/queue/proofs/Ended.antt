@@ -1,27 +1,25 @@
 -- OutStart takes the oldest request that is ready; a started request ends by OutDone, which is never refused for it.
-use Prim.Native.Nat.{ℕ, _-_, _<_}
+use Prim.Native.Nat.{ℕ, _<_}
 use native.Mathlib.Omega.{arith}
 use native.Mathlib.Decide.{ℕ-discrete}
 use mathlib.Core.Path.{_≡_, refl, ap, sym, subst, _∙_}
 use mathlib.Core.Logic.{_≢_}
-use mathlib.Core.Bool.{Bool, true, false, not, cond, _&&_, _||_}
+use mathlib.Core.Bool.{Bool, true, false, not, _&&_}
 use mathlib.Core.List.{List, [], _∷_}
 use lib.ListN.{length, getD, set, length-set}
 use lib.Seq.{getD-set-same}
-use lib.Dec.{eqb, leb}
-use borrow.Author.Tests.{eqb-true, leb-true, eq-eqb, ne-eqb}
-use Rattle.lists.specs.Lists.{between, any, every, without}
-use Rattle.lists.proofs.Bools.{clash, and-l, and-r, and-i, not-true}
+use lib.Dec.{eqb}
+use borrow.Author.Tests.{eqb-true, eq-eqb}
+use Rattle.lists.specs.Lists.{any, every, without}
+use Rattle.lists.proofs.Bools.{clash, and-l, and-r, not-true}
 use Rattle.lists.proofs.Tests.{any-here, any-gone}
 use Rattle.lists.proofs.Parts.{any-found}
 use Rattle.records.specs.declared.name.Name.{Name}
 use Rattle.records.specs.declared.carrier.Carrier.{Carrier}
-use Rattle.records.specs.Ports.{handedOut}
 use Rattle.records.specs.Carriers.{noCarrier, inBuffer, takenOut}
-use Rattle.records.specs.Fields.{withReserved}
 use Rattle.rules.specs.declared.row.Seen.{Seen}
 use Rattle.rules.specs.declared.row.Effect.{Effect}
-use Rattle.rules.specs.State.{State, spotOf, portOf, recordOf}
+use Rattle.rules.specs.State.{State, recordOf}
 use Rattle.rules.specs.Seen.{Input, nameStands, narrow, see}
 use Rattle.rules.specs.Row as row
 use Rattle.rules.specs.Row.{lower, lowest}
@@ -29,24 +27,23 @@ use Rattle.rules.proofs.Names.{name-is, name-same}
 use Rattle.rules.proofs.Apt.{Apt}
 use Rattle.rules.proofs.SoundParts.{Facts}
 use Rattle.rules.proofs.Keep.{port-after}
-use Rattle.maps.specs.Outcome as maps
 use Rattle.maps.specs.Projection as maps-runs
-use Rattle.maps.proofs.SoundRuns as maps-proofs
 use Rattle.queue.specs.declared.request.Request.{Request}
-use Rattle.queue.specs.Requests.{noRequest, begun, isStarted, isOf, startedTo, isReady, isQueued, carrierOf, readyStands, startedStands}
+use Rattle.queue.specs.Requests.{noRequest, begun, isStarted, isOf, startedTo, isReady, isQueued, carrierOf}
+use Rattle.queue.specs.Requests.{readyStands, startedStands}
 use Rattle.queue.specs.State.{Queued, baseOf}
 use Rattle.queue.specs.Sound.{sound}
 use Rattle.queue.specs.Rows.{Row, rowOf, outStart, outDone, comesOut}
 use Rattle.queue.specs.Outcome.{rowIn, answersIn, answerIn, enact, stateAfter}
 use Rattle.queue.specs.Projection.{reached}
 use Rattle.queue.specs.Dispatch.{isUnderWay, isDone, noneDone, TakesOldest, HandedOut, HeldFor}
-use Rattle.queue.proofs.Lines.{wide-at, port-at, stored-at, shut-at, kept-at, names-at, ports-at}
+use Rattle.queue.proofs.Lines.{port-at, stored-at, shut-at, kept-at, names-at, ports-at}
 use Rattle.queue.proofs.Places.{first-one}
 use Rattle.queue.proofs.After.{stored-live, carrier-named, found-again, stands-after}
 use Rattle.queue.proofs.Below.{base-facts}
-use Rattle.queue.proofs.Outs.{handsOut, together}
+use Rattle.queue.proofs.Outs.{handsOut, spot-in, together}
 use Rattle.queue.proofs.SoundRuns.{Sound, sound-parts, sound-after, sound-reached, own-zero, below-zero, is-ready, taken-in}
-use Rattle.queue.proofs.SoundRuns.{ending-in, ending-port, ending-started, within, kept-there, done-zero}
+use Rattle.queue.proofs.SoundRuns.{ending-in, ending-port, ending-started, can-come, done-zero}
 use Rattle.queue.proofs.Lined.{under-way-after}
 
 row-start : (n : ℕ) (s : State) (q : List Request) (x : Seen) (i : Input) → n ≡ 27 → rowOf n s q x i ≡ outStart s q x i
@@ -183,7 +180,7 @@ module _ (s : Queued) (i : Input) (h : sound s ≡ true) (z : i .number ≡ 28) 
   there = narrow (i .port)
 
   stored : inBuffer (carrierOf (baseOf s) n) ≡ true
-  stored = rw ending-is at (stored-at (baseOf s) line (p .line) m (ending-in s i p given some))
+  stored = rw ending-is at (can-come s i p given some .stored)
 
   base-then : baseOf (stateAfter s i) ≡ row.enact (handsOut (baseOf s) there n) (baseOf s)
   unfolding maps-runs.reached
@@ -191,9 +188,7 @@ module _ (s : Queued) (i : Input) (h : sound s ≡ true) (z : i .number ≡ 28) 
       ap baseOf (accepted-is s i done-accepted)
       ∙ ap (λ (w : Row). maps-runs.reached (s .mapped) (w .stands) .base) done-row
       ∙ ap (λ run. maps-runs.reached (s .mapped) run .base) stands-then
-      ∙ together (s .mapped) (i .port) (ending .name) (p .mapped) (within s i p given some) (wide-at (baseOf s) line (p .line) m (ending-in s i p given some))
-      (stored-at (baseOf s) line (p .line) m (ending-in s i p given some))
-      (shut-at (baseOf s) line (p .line) m (ending-in s i p given some) (ending-started s i p given some)) (kept-there s i p given some)
+      ∙ together (s .mapped) (i .port) (ending .name) (p .mapped) (can-come s i p given some)
       ∙ ap (λ n. row.enact (handsOut (baseOf s) there n) (baseOf s)) ending-is
 
   -- the effect, and the carrier at the port
@@ -206,18 +201,10 @@ module _ (s : Queued) (i : Input) (h : sound s ≡ true) (z : i .number ≡ 28) 
   live : nameStands (baseOf s) n < length (baseOf s .carriers)
   live = stored-live (baseOf s) n stored
 
-  spot-in : spotOf there < length (baseOf s .ports)
-  spot-in =
-      let w = within s i p given some in
-      let a = leb-true 1 there (and-l _ _ w) in
-      let b = leb-true there (length (baseOf s .ports)) (and-r (leb 1 there) _ w) in
-      let o : spotOf there ≡ there - 1 = rw (ne-eqb there 0 (λ q. omega arith)) in
-      omega arith
-
   pub out-apt : Apt (baseOf s) effect
   unfolding carrierOf recordOf
   out-apt = record {
-    still = λ b. let a = spot-in in absurd (omega arith);
+    still = λ b. let a = spot-in there _ (can-come s i p given some .within) in absurd (omega arith);
     apart = λ b. omega arith;
     named = λ _. refl;
     lone = λ w. clash w refl;

@@ -1,17 +1,17 @@
 -- A port that is untied, reserved and READY TO LOAD stays so, whatever is accepted but CancelReservationAtPort and LoadStart there.
-use Prim.Native.Nat.{ℕ, _≤_, _<_}
+use Prim.Native.Nat.{ℕ, _<_}
 use native.Mathlib.Omega.{arith}
 use mathlib.Core.Path.{_≡_, refl, ap, sym, _∙_}
 use mathlib.Core.Logic.{_≢_}
-use mathlib.Core.Bool.{Bool, true, false, not, cond, _&&_, _||_}
+use mathlib.Core.Bool.{Bool, true, false, cond, _&&_, _||_}
 use lib.ListN.{length, List·getD-eq-default}
 use lib.Dec.{eqb}
-use borrow.Author.Tests.{eqb-true, eq-eqb, eqb-false}
+use borrow.Author.Tests.{eqb-true, eq-eqb}
 use Rattle.lists.specs.Lists.{sameList}
 use Rattle.lists.proofs.Bools.{clash, and-l, and-r, or-other, or-false-l}
 use Rattle.records.specs.declared.port.Port.{Port}
 use Rattle.records.specs.Names.{noName, sameName, headOr0, zeroEnded, holdsName}
-use Rattle.records.specs.Ports.{noPort, reserved, readyToLoad, hasPod}
+use Rattle.records.specs.Ports.{noPort, reserved, hasPod}
 use Rattle.records.specs.Fields.{withTransfer, withAccess}
 use Rattle.records.specs.Carriers.{atPort}
 use Rattle.rules.specs.declared.row.Seen.{Seen}
@@ -19,7 +19,7 @@ use Rattle.rules.specs.declared.row.Effect.{Effect}
 use Rattle.rules.specs.State.{State, portOf, recordOf}
 use Rattle.rules.specs.Seen.{Input, see}
 use Rattle.rules.specs.Row.{judge, reservedOrTied, placed}
-use Rattle.rules.specs.Booking.{meant, onePair, cancelBind}
+use Rattle.rules.specs.Booking.{meant, cancelBind}
 use Rattle.rules.specs.Verdict.{cancelAt, proceedWithCarrier, cancelCarrier}
 use Rattle.rules.specs.Service.{goesOut, comesIn, changeAccess, changeServiceStatus}
 use Rattle.rules.specs.Opening.{leavesPort, closeRow}

@@ -1,16 +1,15 @@
 -- An entry keeps its place until it is started, dropped or done.
 use Prim.Native.Nat.{ℕ, _<_}
-use native.Mathlib.Omega.{arith}
 use native.Mathlib.Decide.{ℕ-discrete}
-use mathlib.Core.Path.{_≡_, refl, ap, sym, _∙_}
+use mathlib.Core.Path.{_≡_, refl, sym, _∙_}
 use mathlib.Core.Logic.{_≢_, _⊎_, inl, inr}
-use mathlib.Core.Bool.{Bool, true, false, not, cond, _&&_, _||_}
+use mathlib.Core.Bool.{Bool, true, false, cond, _&&_, _||_}
 use mathlib.Core.List.{List, [], _∷_, _++_}
 use lib.ListN.{length, getD, set}
 use lib.Dec.{eqb, ltb}
-use borrow.Author.Tests.{eqb-true, eqb-false, eq-eqb, ltb-true, lt-ltb}
+use borrow.Author.Tests.{eqb-true, eq-eqb, ltb-true, lt-ltb}
 use Rattle.lists.specs.Lists.{any, whereIs, without}
-use Rattle.lists.proofs.Bools.{clash, and-l, and-r, and-i, or-l, or-r, or-false-l, or-false-r, not-true, not-false}
+use Rattle.lists.proofs.Bools.{clash, and-l, and-r, and-i, or-l, or-r, or-false-l, or-false-r, not-true}
 use Rattle.lists.proofs.Tests.{any-here, any-gone, where-holds}
 use Rattle.lists.proofs.Parts.{any-found, any-earlier}
 use Rattle.records.specs.declared.name.Name.{Name}
@@ -22,11 +21,10 @@ use Rattle.queue.specs.declared.request.Request.{Request}
 use Rattle.queue.specs.Requests.{noRequest, begun, isStarted, isOf, waitsOf, startedTo, isQueued, allDropped}
 use Rattle.queue.specs.State.{Queued, baseOf}
 use Rattle.queue.specs.Sound.{sound}
-use Rattle.queue.specs.Rows.{Row}
 use Rattle.queue.specs.Outcome.{rowIn, answerIn, enact, stateAfter}
 use Rattle.queue.specs.Dispatch.{isAhead, isUnderWay, isDone, isDrop, takesOut, KeepsPlace}
-use Rattle.queue.proofs.Lines.{Line, names-at, none-at}
-use Rattle.queue.proofs.Places.{where-set, some-set, some-begun, some-left, Ahead, ahead-more, ahead-less, ahead-dropped, some-started}
+use Rattle.queue.proofs.Lines.{Line, names-at}
+use Rattle.queue.proofs.Places.{where-set, some-begun, some-left, Ahead, ahead-more, ahead-less, ahead-dropped, some-started}
 use Rattle.queue.proofs.SoundRuns.{sound-parts}
 use Rattle.queue.proofs.Walk.{walk}
 
@@ -42,7 +40,7 @@ changed : (s : Queued) (i : Input) → Change (s .queue) (rowIn s i .queue)
 changed s i = walk (λ r. Change (s .queue) (r .queue)) (i .number) (baseOf s) (s .queue) (see (baseOf s) i) i (record {
   cancelCarrier = λ _. less _;
   carrierOut = λ _. more _;
-  cancelReservation = λ _. same;
+  cancelReservationAtPort = λ _. same;
   loadStart = λ _. same;
   openRow = λ _. same;
   outStart = λ _. begins _;
@@ -118,7 +116,7 @@ module _ (s : Queued) (l : Line (baseOf s) (s .queue)) where
     passes-still = walk (λ r. any t (r .queue) ≡ true) (i .number) (baseOf s) q x i (record {
       cancelCarrier = λ z. cancelled (inl z);
       carrierOut = λ _. any-earlier t true q _ e;
-      cancelReservation = λ _. e;
+      cancelReservationAtPort = λ _. e;
       loadStart = λ _. e;
       openRow = λ _. e;
       outStart = λ _. some-begun t q _ _ noRequest (up _) e;

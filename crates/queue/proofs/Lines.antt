@@ -3,17 +3,17 @@ use Prim.Native.Nat.{ℕ, zero, suc, _+_, _≤_, _<_}
 use native.Mathlib.Nat.{le-of-suc-le-suc}
 use native.Mathlib.Omega.{arith}
 use native.Mathlib.Decide.{ℕ-discrete}
-use mathlib.Core.Path.{_≡_, refl, ap, sym, _∙_}
+use mathlib.Core.Path.{_≡_, refl, sym}
 use mathlib.Core.Logic.{_≢_}
-use mathlib.Core.Bool.{Bool, true, false, not, cond, _&&_, _||_}
+use mathlib.Core.Bool.{Bool, true, false, not, _&&_, _||_}
 use mathlib.Core.List.{List, [], _∷_, _++_}
 use lib.ListN.{length, getD, set, length-set, length-append}
 use lib.Seq.{getD-set-same, getD-set-other}
-use lib.Dec.{eqb, leb, ltb}
+use lib.Dec.{eqb, ltb}
 use borrow.Author.Tests.{eqb-true, eqb-false, ltb-true, ltb-false, eq-eqb, ne-eqb}
-use Rattle.lists.specs.Lists.{between, every, everyTwo, any, without}
-use Rattle.lists.proofs.Bools.{clash, and-l, and-r, and-i, or-other, or-r, or-false-l, or-false-r, not-true}
-use Rattle.lists.proofs.Tests.{every-at, two-at}
+use Rattle.lists.specs.Lists.{between, every, everyTwo, any, without, whereIs}
+use Rattle.lists.proofs.Bools.{clash, cond-ind, and-l, and-r, and-i, or-other, or-false-l, or-false-r, not-true}
+use Rattle.lists.proofs.Tests.{every-at, any-not, nowhere, two-at}
 use Rattle.lists.proofs.Parts.{every-all, every-gone, every-new, two-all, two-gone, two-new}
 use Rattle.records.specs.declared.name.Name.{Name}
 use Rattle.records.specs.Names.{sameName}
@@ -21,7 +21,7 @@ use Rattle.records.specs.Carriers.{inBuffer}
 use Rattle.rules.specs.State.{State, portOf}
 use Rattle.rules.proofs.Names.{name-is, name-same}
 use Rattle.queue.specs.declared.request.Request.{Request}
-use Rattle.queue.specs.Requests.{noRequest, newRequest, begun, isStarted, isOf, isQueued, startedTo, carrierOf, mayLeave, allDropped}
+use Rattle.queue.specs.Requests.{noRequest, newRequest, begun, isStarted, isOf, isQueued, carrierOf, mayLeave, only}
 use Rattle.queue.specs.Sound.{requestInRange, carrierStored, otherCarrier, carrierShut, aloneThere, keptFree, portKept}
 
 -- ── Lists ──
@@ -68,34 +68,45 @@ module _ {A : Type 0} where
   none-at f d (x ∷ l) e zero b = or-false-l (f x) _ e
   none-at f d (x ∷ l) e (suc j) b = none-at f d l (or-false-r (f x) _ e) j (le-of-suc-le-suc b)
 
--- those that are started
-module _ (f : Request → Bool) where
-  every-kept : (q : List Request) → every f q ≡ true → every f (allDropped q) ≡ true
-  unfolding every allDropped
-  every-kept [] e = refl
-  every-kept (r ∷ q) e = go (isStarted r) (every-kept q (and-r (f r) _ e))
+  -- where some element passes, the first that does stands in the list
+  pub some-stands : (f : A → Bool) (d : A) (l : List A) → any f l ≡ true → whereIs f l < length l
+  some-stands f d l e = go (ltb (whereIs f l) (length l)) refl
     where
-      go : (w : Bool) → every f (allDropped q) ≡ true → every f (cond w (r ∷ allDropped q) (allDropped q)) ≡ true
-      go true k = and-i (and-l (f r) _ e) k
-      go false k = k
+      go : (w : Bool) → ltb (whereIs f l) (length l) ≡ w → whereIs f l < length l
+      go true q = ltb-true _ _ q
+      go false q = clash e (any-not f l d (nowhere f l d (ltb-false (whereIs f l) (length l) q)))
 
-two-kept : (f : Request → Request → Bool) (q : List Request) → everyTwo f q ≡ true → everyTwo f (allDropped q) ≡ true
-unfolding everyTwo allDropped
-two-kept f [] e = refl
-two-kept f (r ∷ q) e = go (isStarted r) (two-kept f q (and-r (every (f r) q) _ e))
+-- two names that differ
+pub differ : {a c : Name} → a ≢ c → not (sameName a c) ≡ true
+differ {a} {c} n = go (sameName a c) refl
   where
-    go : (w : Bool) → everyTwo f (allDropped q) ≡ true → everyTwo f (cond w (r ∷ allDropped q) (allDropped q)) ≡ true
-    go true k = and-i (every-kept (f r) q (and-l (every (f r) q) _ e)) k
-    go false k = k
+    go : (w : Bool) → sameName a c ≡ w → not w ≡ true
+    go true e = absurd (n (name-is a c e))
+    go false e = refl
 
-length-kept : (q : List Request) → length (allDropped q) ≤ length q
-unfolding allDropped
-length-kept [] = omega arith
-length-kept (r ∷ q) = go (isStarted r) (length-kept q)
-  where
-    go : (w : Bool) → length (allDropped q) ≤ length q → length (cond w (r ∷ allDropped q) (allDropped q)) ≤ suc (length q)
-    go true k = omega arith
-    go false k = omega arith
+-- those that pass a test
+module _ (t : Request → Bool) where
+  every-only : (f : Request → Bool) (q : List Request) → every f q ≡ true → every f (only t q) ≡ true
+  unfolding every only
+  every-only f [] e = refl
+  every-only f (r ∷ q) e =
+      let k = every-only f q (and-r (f r) _ e) in
+      cond-ind (λ l. every f l ≡ true) (t r) {x = r ∷ only t q} {y = only t q} (λ _. and-i (and-l (f r) _ e) k) (λ _. k)
+
+  two-only : (f : Request → Request → Bool) (q : List Request) → everyTwo f q ≡ true → everyTwo f (only t q) ≡ true
+  unfolding everyTwo only
+  two-only f [] e = refl
+  two-only f (r ∷ q) e =
+      let k = two-only f q (and-r (every (f r) q) _ e) in
+      cond-ind (λ l. everyTwo f l ≡ true) (t r) {x = r ∷ only t q} {y = only t q}
+      (λ _. and-i (every-only (f r) q (and-l (every (f r) q) _ e)) k) (λ _. k)
+
+  length-only : (q : List Request) → length (only t q) ≤ length q
+  unfolding only
+  length-only [] = omega arith
+  length-only (r ∷ q) =
+      let k = length-only q in
+      cond-ind (λ l. length l ≤ suc (length q)) (t r) {x = r ∷ only t q} {y = only t q} (λ _. omega arith) (λ _. omega arith)
 
 -- ── The queue's clauses ──
 pub record Line (s : State) (q : List Request) : Type 0 where
@@ -123,16 +134,16 @@ line-without s k q l = record {
   kept = every-without _ noRequest k q (l .kept);
 }
 
--- those that aren't started go
-pub line-kept : (s : State) (q : List Request) → Line s q → Line s (allDropped q)
-line-kept s q l = record {
-  few = let a = length-kept q in let b = l .few in omega arith;
-  ranges = every-kept _ q (l .ranges);
-  stored = every-kept _ q (l .stored);
-  others = two-kept _ q (l .others);
-  shut = every-kept _ q (l .shut);
-  alone = two-kept _ q (l .alone);
-  kept = every-kept _ q (l .kept);
+-- those go that don't pass a test
+pub line-only : (s : State) (t : Request → Bool) (q : List Request) → Line s q → Line s (only t q)
+line-only s t q l = record {
+  few = let a = length-only t q in let b = l .few in omega arith;
+  ranges = every-only t _ q (l .ranges);
+  stored = every-only t _ q (l .stored);
+  others = two-only t _ q (l .others);
+  shut = every-only t _ q (l .shut);
+  alone = two-only t _ q (l .alone);
+  kept = every-only t _ q (l .kept);
 }
 
 -- what a request that isn't started satisfies
@@ -273,16 +284,13 @@ module _ (s : State) (k : ℕ) (q : List Request) (l : Line s q) (b : k < length
     few = rw length-set (l .few);
     ranges = every-set _ noRequest k _ q (l .ranges) (λ _. begun-range);
     stored = every-set _ noRequest k _ q (l .stored) (λ _. every-at _ q noRequest (l .stored) k b);
-    others = two-set _ noRequest k _ q (l .others) (λ j a _ n. (differ (names-at s q l j k a b n), differ (names-at s q l k j b a (λ z. n (sym z)))));
+    others = two-set _ noRequest k _ q (l .others)
+        (λ j a _ n. (differ (names-at s q l j k a b n), differ (names-at s q l k j b a (λ z. n (sym z)))));
     shut = every-set _ noRequest k _ q (l .shut) (λ _. shut);
     alone = two-set _ noRequest k _ q (l .alone)
-        (λ j a _ n. (apart (getD q j noRequest) (begun r) (λ e _. alone j a e), apart (begun r) (getD q j noRequest) (λ _ e z. alone j a e (sym z))));
+        (λ j a _ n. (
+          apart (getD q j noRequest) (begun r) (λ e _. alone j a e),
+          apart (begun r) (getD q j noRequest) (λ _ e z. alone j a e (sym z)),
+        ));
     kept = every-set _ noRequest k _ q (l .kept) (λ _. kept);
   }
-    where
-      differ : {a c : Name} → a ≢ c → not (sameName a c) ≡ true
-      differ {a} {c} n = go (sameName a c) refl
-        where
-          go : (w : Bool) → sameName a c ≡ w → not w ≡ true
-          go true e = absurd (n (name-is a c e))
-          go false e = refl

@@ -1,9 +1,8 @@
 -- With the queue too: a row that takes no name ignores the one that it is sent; a row that takes one answers 1 where it is no name.
 use Prim.Native.Nat.{ℕ}
 use mathlib.Core.Path.{_≡_, refl, ap, sym, _∙_}
-use mathlib.Core.Logic.{_≢_}
 use mathlib.Core.Bool.{Bool, true, false, cond, _||_}
-use mathlib.Core.List.{List, [], _∷_}
+use mathlib.Core.List.{List, []}
 use lib.Dec.{eqb}
 use borrow.Author.Tests.{ne-eqb}
 use Rattle.lists.specs.Lists.{any}
@@ -15,7 +14,7 @@ use Rattle.rules.specs.Row as base-row
 use Rattle.rules.specs.Row.{Ground, lower, lowest}
 use Rattle.rules.specs.Named as base
 use Rattle.rules.specs.Named.{nameMissing, called}
-use Rattle.rules.proofs.Named.{other-number, givesOne, lower-one, one-is-lowest}
+use Rattle.rules.proofs.Named.{other-number, lower-one, one-is-lowest}
 use Rattle.maps.specs.State.{Mapped}
 use Rattle.maps.specs.Outcome as maps
 use Rattle.maps.specs.Projection as maps-runs
@@ -132,7 +131,7 @@ module _ (i : Input) (h : isName (i .name) ≡ false) (t : takesName (i .number)
     answers = walk One (i .number) (baseOf s) (s .queue) x i (record {
       cancelCarrier = λ z. passed-one [] (s .queue) (rw z);
       carrierOut = λ _. out-one;
-      cancelReservation = λ z. takes-none 12 z refl;
+      cancelReservationAtPort = λ z. takes-none 12 z refl;
       loadStart = λ z. takes-none 13 z refl;
       openRow = λ z. passed-one (openRow (s .queue) x i .grounds) (s .queue) (rw z);
       outStart = λ z. takes-none 27 z refl;

@@ -1,11 +1,9 @@
 -- OutStart's and OutDone's inputs below: row 11 keeps the port free; rows 12 and 7 are accepted, and together they are one effect.
 use Prim.Native.Nat.{ℕ, _-_, _<_}
 use native.Mathlib.Omega.{arith}
-use mathlib.Core.Path.{_≡_, refl, ap, sym, subst, _∙_}
-use mathlib.Core.Logic.{_≢_}
-use mathlib.Core.Bool.{Bool, true, false, not, cond, _&&_, _||_}
-use mathlib.Core.List.{List, [], _∷_}
-use lib.ListN.{length, getD, set, length-set}
+use mathlib.Core.Path.{_≡_, refl, sym, subst, _∙_}
+use mathlib.Core.Bool.{Bool, true, false, not}
+use lib.ListN.{length, set, length-set}
 use lib.Seq.{set-out, set-set, getD-set-same}
 use lib.Dec.{eqb, leb}
 use borrow.Author.Tests.{eqb-true, leb-true, eq-eqb, ne-eqb, lt-ltb}
@@ -14,7 +12,6 @@ use Rattle.lists.proofs.Bools.{clash, and-l, and-r, and-i, or-false-l, or-false
 use Rattle.lists.proofs.Tables.{without-out}
 use Rattle.records.specs.declared.name.Name.{Name}
 use Rattle.records.specs.declared.port.Port.{Port}
-use Rattle.records.specs.declared.carrier.Carrier.{Carrier}
 use Rattle.records.specs.Names.{noName, sameName, holdsName}
 use Rattle.records.specs.Ports.{noPort, reserved, handedOut}
 use Rattle.records.specs.Carriers.{noCarrier, inBuffer, isOpen, inAccess, takenOut}
@@ -24,7 +21,7 @@ use Rattle.rules.specs.declared.row.Effect.{Effect}
 use Rattle.rules.specs.State.{State, spotOf, portOf, recordOf}
 use Rattle.rules.specs.Seen.{Input, nameStands, tieStands, narrow, see}
 use Rattle.rules.specs.Row as row
-use Rattle.rules.specs.Row.{judge, onPort, onBoth, reservedOrTied}
+use Rattle.rules.specs.Row.{judge, onPort, onBoth}
 use Rattle.rules.specs.Service.{reserveAtPort, cancelReservationAtPort}
 use Rattle.rules.specs.Buffer.{carrierOut}
 use Rattle.rules.specs.Inputs.{ReserveAtPort, CancelReservationAtPort, CarrierOut}
@@ -116,10 +113,23 @@ abbrev pub handsOut : State → ℕ → Name → Effect
 handsOut s p n =
     onBoth (length (s .carriers)) p (handedOut n (withReserved 0 (portOf s p))) (nameStands s n) (takenOut p (carrierOf s n))
 
-module _ (s : Mapped) (port : ℕ) (n : Name) (h : maps-sound.sound s ≡ true)
-    (within : between 1 (narrow port) (length (s .base .ports)) ≡ true) (wide : length (n .bytes) ≡ 16)
-    (stored : inBuffer (carrierOf (s .base) n) ≡ true) (shut : mayLeave (carrierOf (s .base) n) ≡ true)
-    (kept : keptFree (portOf (s .base) (narrow port)) ≡ true) where
+-- what makes both of them accepted: a port of the tool that is kept free, a carrier in the buffer that is closed and not in access
+pub record CanComeOut (s : State) (p : ℕ) (n : Name) : Type 0 where
+  pub within : between 1 p (length (s .ports)) ≡ true
+  pub wide : length (n .bytes) ≡ 16
+  pub stored : inBuffer (carrierOf s n) ≡ true
+  pub shut : mayLeave (carrierOf s n) ≡ true
+  pub kept : keptFree (portOf s p) ≡ true
+
+-- a port of the tool stands in its list
+pub spot-in : (p m : ℕ) → between 1 p m ≡ true → spotOf p < m
+spot-in p m w =
+    let a = leb-true 1 p (and-l _ _ w) in
+    let b = leb-true p m (and-r (leb 1 p) _ w) in
+    let z : spotOf p ≡ p - 1 = rw (ne-eqb p 0 (λ e. omega arith)) in
+    omega arith
+
+module _ (s : Mapped) (port : ℕ) (n : Name) (h : maps-sound.sound s ≡ true) (c : CanComeOut (s .base) (narrow port) n) where
   abbrev p : ℕ
   p = narrow port
 
@@ -133,7 +143,7 @@ module _ (s : Mapped) (port : ℕ) (n : Name) (h : maps-sound.sound s ≡ true)
   comes = CarrierOut (textOf n) port
 
   free : Free (portOf (s .base) p)
-  free = free-is (portOf (s .base) p) kept
+  free = free-is (portOf (s .base) p) (c .kept)
 
   no-map-12 : carries 12 ≡ false
   unfolding carries
@@ -152,12 +162,12 @@ module _ (s : Mapped) (port : ℕ) (n : Name) (h : maps-sound.sound s ≡ true)
     where
       go : (w : Bool) → see (s .base) ends .tied ≡ w → w ≡ false
       go true t =
-          absurd (nobody-there (s .base) ends done p kept (see (s .base) ends .holds) (held-live (s .base) ends done t) (held-there t))
+          absurd (nobody-there (s .base) ends done p (c .kept) (see (s .base) ends .holds) (held-live (s .base) ends done t) (held-there t))
       go false t = refl
 
   first-accepts : judge (cancelReservationAtPort (see (s .base) ends) .grounds) ≡ 0
   unfolding see
-  first-accepts = rw (within, untied-there, free .reserved)
+  first-accepts = rw (c .within, untied-there, free .reserved)
 
   pub first-zero : maps.answerIn s ends ≡ 0
   unfolding base.rowOf
@@ -177,34 +187,27 @@ module _ (s : Mapped) (port : ℕ) (n : Name) (h : maps-sound.sound s ≡ true)
   mid-is : maps.stateAfter s ends .base ≡ mid
   mid-is = state-below s ends h (eq-eqb _ 0 first-zero) ∙ rw first-effect (port-only (s .base) p left)
 
-  spot-in : spotOf p < length (s .base .ports)
-  spot-in =
-      let a = leb-true 1 p (and-l _ _ within) in
-      let b = leb-true p (length (s .base .ports)) (and-r (leb 1 p) _ within) in
-      let z : spotOf p ≡ p - 1 = rw (ne-eqb p 0 (λ e. omega arith)) in
-      omega arith
-
   abbrev y : Seen
   y = see mid comes
 
   holds-name : holdsName n ≡ true
-  holds-name = name-held (s .base) n stored done
+  holds-name = name-held (s .base) n (c .stored) done
 
   name-then : y .name ≡ n
   unfolding see
-  name-then = text-in-bytes n holds-name wide
+  name-then = text-in-bytes n holds-name (c .wide)
 
   named-then : y .named ≡ true
   unfolding see
-  named-then = text-is-name n holds-name wide
+  named-then = text-is-name n holds-name (c .wide)
 
   port-then : y .isport ≡ true
   unfolding see
-  port-then = rw length-set within
+  port-then = rw length-set (c .within)
 
   here-then : y .here ≡ left
   unfolding see portOf
-  here-then = getD-set-same (s .base .ports) (spotOf p) left noPort spot-in
+  here-then = getD-set-same (s .base .ports) (spotOf p) left noPort (spot-in p _ (c .within))
 
   stands-then : y .stands ≡ nameStands (s .base) n
   unfolding see nameStands
@@ -216,7 +219,7 @@ module _ (s : Mapped) (port : ℕ) (n : Name) (h : maps-sound.sound s ≡ true)
 
   known-then : y .known ≡ true
   unfolding see
-  known-then = rw stands-then (lt-ltb (nameStands (s .base) n) (length (s .base .carriers)) (stored-live (s .base) n stored))
+  known-then = rw stands-then (lt-ltb (nameStands (s .base) n) (length (s .base .carriers)) (stored-live (s .base) n (c .stored)))
 
   tied-then : y .tied ≡ false
   unfolding see tieStands
@@ -225,10 +228,10 @@ module _ (s : Mapped) (port : ℕ) (n : Name) (h : maps-sound.sound s ≡ true)
   second-accepts : judge (carrierOut y .grounds) ≡ 0
   unfolding mayLeave
   second-accepts =
-      let c = carrierOf (s .base) n in
-      let o : not (isOpen c) ≡ true = and-l _ _ shut in
-      let a : not (inAccess c) ≡ true = and-r (not (isOpen c)) _ shut in
-      rw (named-then, port-then, known-then, here-then, tied-then, found-then, stored, o, a, free .ready)
+      let d = carrierOf (s .base) n in
+      let o : not (isOpen d) ≡ true = and-l _ _ (c .shut) in
+      let a : not (inAccess d) ≡ true = and-r (not (isOpen d)) _ (c .shut) in
+      rw (named-then, port-then, known-then, here-then, tied-then, found-then, c .stored, o, a, free .ready)
 
   pub second-zero : maps.answerIn (maps.stateAfter s ends) comes ≡ 0
   unfolding base.rowOf

@@ -11,7 +11,7 @@ use Rattle.lists.proofs.Bools.{clash, or-l, or-r}
 use Rattle.lists.proofs.Tests.{any-other}
 use Rattle.lists.proofs.Parts.{any-found}
 use Rattle.queue.specs.declared.request.Request.{Request}
-use Rattle.queue.specs.Requests.{isStarted, allDropped}
+use Rattle.queue.specs.Requests.{isStarted, only, allDropped}
 
 module _ {A : Type 0} (f : A → Bool) where
   -- an element that is replaced by one that passes as it did
@@ -106,7 +106,7 @@ module _ {A : Type 0} (f g : A → Bool) where
 -- those go that aren't started, and none of them passes g
 pub ahead-dropped : (f g : Request → Bool) (q : List Request) (d : Request)
     → ((j : ℕ) → j < length q → g (getD q j d) ≡ true → isStarted (getD q j d) ≡ true) → Ahead f g (allDropped q) → Ahead f g q
-unfolding allDropped
+unfolding only
 ahead-dropped f g [] d h b = b
 ahead-dropped f g (r ∷ q) d h b = go (isStarted r) refl (ahead-dropped f g q d (λ j c. h (suc j) (suc-le-suc c))) b
   where
@@ -121,7 +121,7 @@ ahead-dropped f g (r ∷ q) d h b = go (isStarted r) refl (ahead-dropped f g q d
 
 -- a started one stays
 pub some-started : (f : Request → Bool) (q : List Request) → any (λ r. f r && isStarted r) q ≡ any f (allDropped q)
-unfolding any allDropped
+unfolding any only
 some-started f [] = refl
 some-started f (r ∷ q) = go (f r) refl (isStarted r) (some-started f q)
   where

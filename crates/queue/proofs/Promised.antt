@@ -1,25 +1,21 @@
 -- Demand 3 holds of every run from every valid set-up: P1's promise, read through the projection.
 use Prim.Native.Nat.{ℕ, zero, suc, _≤_, _<_, _+_}
-use native.Mathlib.Nat.{le-of-suc-le-suc}
 use native.Mathlib.Omega.{arith}
 use mathlib.Core.Path.{_≡_, refl, ap, sym, subst, _∙_}
 use mathlib.Core.Bool.{Bool, true, false, cond, _||_}
 use mathlib.Core.List.{List, [], _∷_, _++_}
 use lib.ListN.{length, getD, set}
-use lib.Seq.{set-out}
-use lib.Dec.{eqb, ltb}
-use borrow.Author.Tests.{eqb-true, eq-eqb, ne-eqb, ltb-true, ltb-false}
-use Rattle.lists.specs.Lists.{any, without, withNew}
-use Rattle.lists.proofs.Bools.{clash, or-r, or-l}
+use lib.Dec.{eqb}
+use borrow.Author.Tests.{eqb-true}
+use Rattle.lists.specs.Lists.{any, without}
+use Rattle.lists.proofs.Bools.{clash, or-r}
 use Rattle.records.specs.declared.name.Name.{Name}
 use Rattle.records.specs.Names.{sameName}
 use Rattle.records.specs.Carriers.{noCarrier}
-use Rattle.rules.specs.declared.row.Seen.{Seen}
 use Rattle.rules.specs.declared.row.Effect.{Effect}
 use Rattle.rules.specs.State.{State, recordOf}
 use Rattle.rules.specs.Seen.{Input, isNamed, see}
 use Rattle.rules.specs.Row as row
-use Rattle.rules.specs.Row.{Ground, lowest}
 use Rattle.rules.specs.Rows as base
 use Rattle.rules.specs.Inputs.{ReserveAtPort, CancelReservationAtPort, CarrierOut}
 use Rattle.rules.specs.History.{Event, isLive, history}
@@ -41,12 +37,12 @@ use Rattle.maps.proofs.Promised as maps-promised
 use Rattle.queue.specs.declared.request.Request.{Request}
 use Rattle.queue.specs.Requests.{startedTo}
 use Rattle.queue.specs.State.{Queued, baseOf, start}
-use Rattle.queue.specs.Rows.{Row, textOf, passedOn, outDone, comesOut}
+use Rattle.queue.specs.Rows.{Row, textOf, outDone, comesOut}
 use Rattle.queue.specs.Outcome.{rowIn, answersIn, answerIn, enact, stateAfter}
 use Rattle.queue.specs.Projection.{reached, standsFor, cutDown}
 use Rattle.queue.specs.Promise.{events, Promise}
 use Rattle.queue.proofs.Below.{state-below, apt-below}
-use Rattle.queue.proofs.SoundRuns.{sound-parts, sound-start, sound-reached, last-zero, earlier-zero, below-zero, own-zero}
+use Rattle.queue.proofs.SoundRuns.{sound-parts, sound-start, sound-reached, last-zero, earlier-zero, below-zero}
 use Rattle.queue.proofs.Projected.{below}
 use Rattle.queue.proofs.Same.{Silent, silent-refused, silent-number, Same, alone, both, here, there, same-earned}
 use Rattle.queue.proofs.Walk.{walk}
@@ -179,7 +175,8 @@ module _ (P B : ℕ) (lo : 1 ≤ P) (hi : P ≤ 4) (few : B ≤ 16) where
           let j = CancelReservationAtPort (i .port) in
           let k = CarrierOut name (i .port) in
           let t = maps.stateAfter (s .mapped) j in
-          let v = live-below t k n (maps-proofs.sound-after (s .mapped) j h) (last-zero (s .mapped) k (j ∷ []) z) (out-makes t (i .port) name) l in
+          let u = maps-proofs.sound-after (s .mapped) j h in
+          let v = live-below t k n u (last-zero (s .mapped) k (j ∷ []) z) (out-makes t (i .port) name) l in
           let m = live-below (s .mapped) j n h (last-zero (s .mapped) j [] (earlier-zero (s .mapped) k (j ∷ []) z))
           (cancel-makes (s .mapped) (i .port) []) v in
           rw (there-two k j, v, m)
@@ -213,7 +210,7 @@ module _ (P B : ℕ) (lo : 1 ≤ P) (hi : P ≤ 4) (few : B ≤ 16) where
       rows-tell a = walk Told (i .number) (baseOf s) (s .queue) (see (baseOf s) i) i (record {
         cancelCarrier = λ _ z _. passed-tells a z;
         carrierOut = λ z. nothing-tells 7 z refl refl refl refl;
-        cancelReservation = λ _ z _. passed-tells a z;
+        cancelReservationAtPort = λ _ z _. passed-tells a z;
         loadStart = λ _ z _. passed-tells a z;
         openRow = λ _ z _. passed-tells a z;
         outStart = λ z. start-tells (silent-row 27 z refl refl refl refl);

@@ -7,11 +7,8 @@ use lib.Dec.{eqb}
 use Rattle.lists.specs.Lists.{any}
 use Rattle.records.specs.declared.name.Name.{Name}
 use Rattle.records.specs.Names.{inBytes, sameName}
-use Rattle.records.specs.Maps.{inMap}
 use Rattle.records.specs.declared.carrier.Carrier.{Carrier}
-use Rattle.rules.specs.Seen.{Input}
-use Rattle.rules.specs.History.{Event, done, announcedThere, verifies, verified, wasCancelled, wasMapped, released}
-use Rattle.maps.specs.Expected.{equals}
+use Rattle.rules.specs.History.{Event, done, verifies, verified, wasCancelled, wasMapped, released}
 use Rattle.maps.specs.History.{madeWith, matched}
 use Rattle.maps.specs.Promise.{Earned}
 

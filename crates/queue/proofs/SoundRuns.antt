@@ -1,29 +1,28 @@
 -- Every input keeps a sound state sound, and so is every state that a run reaches.
 use Prim.Native.Nat.{ℕ, _≤_, _<_}
 use native.Mathlib.Omega.{arith}
-use mathlib.Core.Path.{_≡_, refl, ap, sym, subst, _∙_}
+use mathlib.Core.Path.{_≡_, refl, sym, _∙_}
 use mathlib.Core.Logic.{_≢_}
-use mathlib.Core.Bool.{Bool, true, false, not, cond, _&&_, _||_}
+use mathlib.Core.Bool.{Bool, true, false, not, cond}
 use mathlib.Core.List.{List, [], _∷_}
 use lib.ListN.{length, getD}
-use lib.Dec.{eqb, leb, ltb}
-use borrow.Author.Tests.{eqb-true, eqb-false, eq-eqb, leb-true, leb-false, le-leb, ltb-true, ltb-false}
-use Rattle.lists.specs.Lists.{between, any, whereIs, without}
+use lib.Dec.{eqb, leb}
+use borrow.Author.Tests.{eqb-true, eqb-false, eq-eqb, leb-true, leb-false, le-leb, ltb-true}
+use Rattle.lists.specs.Lists.{between, any, without}
 use Rattle.lists.proofs.Bools.{clash, and-l, and-r, and-i, not-true}
-use Rattle.lists.proofs.Tests.{every-at, any-not, nowhere, where-holds}
+use Rattle.lists.proofs.Tests.{every-at, where-holds}
 use Rattle.lists.proofs.Tables.{length-fill}
 use Rattle.lists.proofs.Parts.{every-gone}
-use Rattle.records.specs.declared.name.Name.{Name}
 use Rattle.records.specs.Names.{inBytes, sameName}
 use Rattle.records.specs.Carriers.{inBuffer}
 use Rattle.rules.specs.declared.row.Seen.{Seen}
-use Rattle.rules.specs.State.{State, portOf}
+use Rattle.rules.specs.State.{portOf}
 use Rattle.rules.specs.Seen.{Input, narrow, see}
 use Rattle.rules.specs.Row.{Ground, judge, lower, lowest}
 use Rattle.rules.specs.Inputs.{ReserveAtPort, CancelReservationAtPort, CarrierOut}
-use Rattle.rules.proofs.Names.{name-is, name-same}
+use Rattle.rules.proofs.Names.{name-same}
 use Rattle.rules.proofs.Lowest.{risingFrom, first-is-lowest}
-use Rattle.rules.proofs.Accepts.{Clear, clear}
+use Rattle.rules.proofs.Accepts.{clear}
 use Rattle.rules.proofs.SoundTests.{_and_}
 use Rattle.maps.specs.State.{Mapped}
 use Rattle.maps.specs.Sound as maps-sound
@@ -31,18 +30,18 @@ use Rattle.maps.specs.Outcome as maps
 use Rattle.maps.specs.Projection as maps-runs
 use Rattle.maps.proofs.SoundRuns as maps-proofs
 use Rattle.queue.specs.declared.request.Request.{Request}
-use Rattle.queue.specs.Requests.{noRequest, newRequest, isStarted, isOf, startedOf, startedTo, carrierOf, mayLeave}
+use Rattle.queue.specs.Requests.{noRequest, newRequest, isStarted, startedOf, startedTo, carrierOf, mayLeave}
 use Rattle.queue.specs.Requests.{isReady, readyStands, startedStands}
 use Rattle.queue.specs.State.{Queued, baseOf, start}
-use Rattle.queue.specs.Sound.{requestInRange, carrierStored, otherCarrier, carrierShut, aloneThere, keptFree, portKept, sound}
-use Rattle.queue.specs.Rows.{Row, textOf, passedOn, cancelCarrier, carrierOut, atStartedPort, openRow, outStart, comesOut, outDone}
-use Rattle.queue.specs.Rows.{cancelCarrierOut, cancelAllCarrierOut}
+use Rattle.queue.specs.Sound.{requestInRange, carrierStored, keptFree, sound}
+use Rattle.queue.specs.Rows.{Row, textOf, passedOn, cancelCarrier, carrierOut, cancelReservationAtPort, loadStart, openRow}
+use Rattle.queue.specs.Rows.{outStart, comesOut, outDone, cancelCarrierOut, cancelAllCarrierOut}
 use Rattle.queue.specs.Outcome.{rowIn, answersIn, answerIn, enact, stateAfter}
 use Rattle.queue.specs.Projection.{reached}
-use Rattle.queue.proofs.Lines.{Line, line-none, line-without, line-kept, line-added, line-begun, wide-at, port-at, stored-at, shut-at}
-use Rattle.queue.proofs.Lines.{kept-at, names-at, ports-at, none-at}
+use Rattle.queue.proofs.Lines.{Line, line-none, line-without, line-only, line-added, line-begun, wide-at, stored-at, shut-at}
+use Rattle.queue.proofs.Lines.{kept-at, names-at, ports-at, none-at, some-stands, differ}
 use Rattle.queue.proofs.Below.{base-facts, Safe, line-below, shut-after}
-use Rattle.queue.proofs.Outs.{start-frees, was-free, first-zero, second-zero}
+use Rattle.queue.proofs.Outs.{start-frees, was-free, CanComeOut, first-zero, second-zero}
 use Rattle.queue.proofs.After.{name-held}
 use Rattle.queue.proofs.Texts.{text-in-bytes}
 use Rattle.queue.proofs.Walk.{Plain, walk}
@@ -98,22 +97,6 @@ module _ (s : Mapped) (i : Input) (earlier : List Input) (z : answersIn s (i ∷
   unfolding answersIn
   earlier-zero = lower-zero (answersIn s earlier) _ z .0
 
--- where some element passes, the first that does stands in the list
-some-stands : {A : Type 0} (f : A → Bool) (d : A) (l : List A) → any f l ≡ true → whereIs f l < length l
-some-stands f d l e = go (ltb (whereIs f l) (length l)) refl
-  where
-    go : (w : Bool) → ltb (whereIs f l) (length l) ≡ w → whereIs f l < length l
-    go true q = ltb-true _ _ q
-    go false q = clash e (any-not f l d (nowhere f l d (ltb-false (whereIs f l) (length l) q)))
-
--- two names that differ
-differ : {a c : Name} → a ≢ c → not (sameName a c) ≡ true
-differ {a} {c} n = go (sameName a c) refl
-  where
-    go : (w : Bool) → sameName a c ≡ w → not w ≡ true
-    go true e = absurd (n (name-is a c e))
-    go false e = refl
-
 module _ (s : Queued) (i : Input) (p : Sound s) where
   abbrev x : Seen
   x = see (baseOf s) i
@@ -126,7 +109,8 @@ module _ (s : Queued) (i : Input) (p : Sound s) where
 
   -- what there is to show of a row that accepts
   abbrev Keeps : Row → Type 0
-  Keeps r = lowest (r .grounds) ≡ 0 → answersIn (s .mapped) (r .stands) ≡ 0 → Line (maps-runs.reached (s .mapped) (r .stands) .base) (r .queue)
+  Keeps r =
+      lowest (r .grounds) ≡ 0 → answersIn (s .mapped) (r .stands) ≡ 0 → Line (maps-runs.reached (s .mapped) (r .stands) .base) (r .queue)
 
   -- ── One input below ──
   module _ (j : Input) (z : answersIn (s .mapped) (j ∷ []) ≡ 0) where
@@ -163,15 +147,23 @@ module _ (s : Queued) (i : Input) (p : Sound s) where
   other-started e k b t z =
       clash (and-i (name-same _ _ z) t) (none-at (startedOf (x .name)) noRequest q e k b)
 
-  port-keeps : i .number ≢ 7 → i .number ≢ 19 → Keeps (atStartedPort q x i)
-  port-keeps a d g z =
-      let e = clear (atStartedPort q x i .grounds) refl (cleared (atStartedPort q x i .grounds) refl g) .0 in
-      passed i z (λ k b. record {
-        out = λ o. absurd (a o);
-        opens = λ _ o. absurd (d o);
-        frees = λ t _. none-started e k b t;
-        loads = λ t _. none-started e k b t;
-      })
+  started-safe : any (startedTo (x .port)) q ≡ false → i .number ≢ 7 → i .number ≢ 19 → (k : ℕ) → k < length q → Safe i (getD q k noRequest)
+  started-safe e a d k b = record {
+    out = λ o. absurd (a o);
+    opens = λ _ o. absurd (d o);
+    frees = λ t _. none-started e k b t;
+    loads = λ t _. none-started e k b t;
+  }
+
+  cancel-reservation-keeps : i .number ≡ 12 → Keeps (cancelReservationAtPort q x i)
+  cancel-reservation-keeps n g z =
+      let gs = cancelReservationAtPort q x i .grounds in
+      passed i z (started-safe (clear gs refl (cleared gs refl g) .0) (λ o. omega arith) (λ o. omega arith))
+
+  load-start-keeps : i .number ≡ 13 → Keeps (loadStart q x i)
+  load-start-keeps n g z =
+      let gs = loadStart q x i .grounds in
+      passed i z (started-safe (clear gs refl (cleared gs refl g) .0) (λ o. omega arith) (λ o. omega arith))
 
   open-keeps : i .number ≡ 19 → Keeps (openRow q x i)
   open-keeps n g z =
@@ -205,7 +197,7 @@ module _ (s : Queued) (i : Input) (p : Sound s) where
 
   cancel-all-keeps : Keeps (cancelAllCarrierOut q)
   unfolding maps-runs.reached
-  cancel-all-keeps _ _ = line-kept (baseOf s) q l
+  cancel-all-keeps _ _ = line-only (baseOf s) _ q l
 
   -- ── OutStart ──
   module _ (g : lowest (outStart (baseOf s) q x i .grounds) ≡ 0) (z : answersIn (s .mapped) (ReserveAtPort (i .port) ∷ []) ≡ 0) where
@@ -270,12 +262,18 @@ module _ (s : Queued) (i : Input) (p : Sound s) where
     pub ending-started : isStarted ending ≡ true
     ending-started = and-r (eqb (ending .port) (x .port)) _ is-ending
 
-    pub within : between 1 (narrow (i .port)) (length (baseOf s .ports)) ≡ true
+    given-port : between 1 (narrow (i .port)) (length (baseOf s .ports)) ≡ true
     unfolding see
-    within = given
+    given-port = given
 
-    pub kept-there : keptFree (portOf (baseOf s) (narrow (i .port))) ≡ true
-    kept-there = rw ending-port at (kept-at (baseOf s) q l m ending-in ending-started)
+    pub can-come : CanComeOut (baseOf s) (narrow (i .port)) (ending .name)
+    can-come = record {
+      within = given-port;
+      wide = wide-at (baseOf s) q l m ending-in;
+      stored = stored-at (baseOf s) q l m ending-in;
+      shut = shut-at (baseOf s) q l m ending-in ending-started;
+      kept = rw ending-port at (kept-at (baseOf s) q l m ending-in ending-started);
+    }
 
     abbrev ends : Input
     ends = CancelReservationAtPort (i .port)
@@ -284,14 +282,10 @@ module _ (s : Queued) (i : Input) (p : Sound s) where
     comes = CarrierOut (textOf (ending .name)) (i .port)
 
     pub ends-zero : maps.answerIn (s .mapped) ends ≡ 0
-    ends-zero =
-        first-zero (s .mapped) (i .port) (ending .name) (p .mapped) within (wide-at (baseOf s) q l m ending-in)
-        (stored-at (baseOf s) q l m ending-in) (shut-at (baseOf s) q l m ending-in ending-started) kept-there
+    ends-zero = first-zero (s .mapped) (i .port) (ending .name) (p .mapped) can-come
 
     pub comes-zero : maps.answerIn (maps.stateAfter (s .mapped) ends) comes ≡ 0
-    comes-zero =
-        second-zero (s .mapped) (i .port) (ending .name) (p .mapped) within (wide-at (baseOf s) q l m ending-in)
-        (stored-at (baseOf s) q l m ending-in) (shut-at (baseOf s) q l m ending-in ending-started) kept-there
+    comes-zero = second-zero (s .mapped) (i .port) (ending .name) (p .mapped) can-come
 
     pub done-zero : answersIn (s .mapped) (comesOut ending i) ≡ 0
     unfolding answersIn lower maps-runs.reached
@@ -321,13 +315,14 @@ module _ (s : Queued) (i : Input) (p : Sound s) where
 
     text-is : inBytes (textOf (ending .name)) ≡ ending .name
     text-is =
-        text-in-bytes (ending .name) (name-held (baseOf s) (ending .name) (stored-at (baseOf s) q l m ending-in) (base-facts (s .mapped) (p .mapped)))
-        (wide-at (baseOf s) q l m ending-in)
+        text-in-bytes (ending .name) (name-held (baseOf s) (ending .name) (can-come .stored) (base-facts (s .mapped) (p .mapped)))
+        (can-come .wide)
 
     done-line : Line (maps-runs.reached (s .mapped) (comesOut ending i) .base) rest
     unfolding maps-runs.reached
     done-line =
-        line-below (maps.stateAfter (s .mapped) ends) comes (maps-proofs.sound-after (s .mapped) ends (p .mapped)) (eq-eqb _ 0 comes-zero) rest
+        line-below (maps.stateAfter (s .mapped) ends) comes (maps-proofs.sound-after (s .mapped) ends (p .mapped))
+        (eq-eqb _ 0 comes-zero) rest
         (λ j b. record {
           out = λ _ z. other-name j b (z ∙ text-is);
           opens = λ _ o. absurd (omega arith);
@@ -352,8 +347,8 @@ module _ (s : Queued) (i : Input) (p : Sound s) where
   keeps = walk Keeps (i .number) (baseOf s) q x i (record {
     cancelCarrier = cancel-keeps;
     carrierOut = λ _. out-keeps;
-    cancelReservation = λ n. port-keeps (λ o. omega arith) (λ o. omega arith);
-    loadStart = λ n. port-keeps (λ o. omega arith) (λ o. omega arith);
+    cancelReservationAtPort = cancel-reservation-keeps;
+    loadStart = load-start-keeps;
     openRow = open-keeps;
     outStart = λ _. start-line;
     outDone = λ _. done-keeps;

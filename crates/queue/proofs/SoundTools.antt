@@ -1,14 +1,13 @@
 -- A tool that holds a sound state is sound: after set-up, and after every input.
 use Prim.Native.Nat.{ℕ, _≤_}
-use native.Mathlib.Omega.{arith}
-use mathlib.Core.Path.{_≡_, refl, ap, sym, _∙_}
+use mathlib.Core.Path.{_≡_, refl, ap}
 use mathlib.Core.Bool.{Bool, true, false, cond, _&&_}
 use mathlib.Core.List.{[]}
 use lib.ListN.{length, drop}
 use lib.Seq.{take-all}
 use lib.Dec.{eqb, leb}
 use borrow.Author.Tests.{le-leb}
-use Rattle.lists.specs.Lists.{every, fill, sameList}
+use Rattle.lists.specs.Lists.{every, sameList}
 use Rattle.lists.proofs.Bools.{and-r, and-i}
 use Rattle.lists.proofs.Tables.{take-fill, rest-fill, fill-none}
 use Rattle.records.specs.Names.{sameName}
@@ -79,8 +78,8 @@ module _ (P B : ℕ) (yes : base.setUp P B .answer ≡ 0) where
   pub setup-sound : soundTool tool ≡ true
   unfolding soundTool
   setup-sound =
-      and-i (and-i (and-i (maps-tools.setup-sound P B yes) refl) (rw (fill-none 16 noRequest) (rest-fill zeroRequest 16 noRequest [] none-zero)))
-      (rw setup-state start-sound)
+      let z : every zeroRequest noRequests ≡ true = rw (fill-none 16 noRequest) (rest-fill zeroRequest 16 noRequest [] none-zero) in
+      and-i (and-i (and-i (maps-tools.setup-sound P B yes) refl) z) (rw setup-state start-sound)
 
 -- ── Inputs ──
 module _ (t : QueuedTool) (i : Input) (h : soundTool t ≡ true) where

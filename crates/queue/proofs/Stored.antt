@@ -3,19 +3,19 @@ use Prim.Native.Nat.{ℕ, _<_}
 use native.Mathlib.Omega.{arith}
 use mathlib.Core.Path.{_≡_, refl, ap, sym, _∙_}
 use mathlib.Core.Logic.{_≢_}
-use mathlib.Core.Bool.{Bool, true, false, not, cond, _&&_, _||_}
+use mathlib.Core.Bool.{Bool, true, false, not, cond}
 use lib.ListN.{length}
 use lib.Dec.{eqb}
-use borrow.Author.Tests.{eqb-true, lt-ltb, ne-eqb}
-use Rattle.lists.proofs.Bools.{clash, and-l, and-r, or-l, or-false-l}
+use borrow.Author.Tests.{eqb-true, lt-ltb}
+use Rattle.lists.proofs.Bools.{clash, and-l, and-r, or-l}
 use Rattle.records.specs.declared.carrier.Carrier.{Carrier}
-use Rattle.records.specs.Carriers.{expected, atPort, isOpen, inAccess}
+use Rattle.records.specs.Carriers.{expected, isOpen, inAccess}
 use Rattle.rules.specs.declared.row.Seen.{Seen}
 use Rattle.rules.specs.declared.row.Effect.{Effect}
 use Rattle.rules.specs.State.{State, recordOf}
 use Rattle.rules.specs.Seen.{Input, see}
 use Rattle.rules.specs.Row.{Row, judge, placed}
-use Rattle.rules.specs.Booking.{meant, meantPort, meantStands, onePair, cancelBind}
+use Rattle.rules.specs.Booking.{meant, meantStands, onePair, cancelBind}
 use Rattle.rules.specs.Verdict.{failed, proceedWithCarrier, cancelCarrier}
 use Rattle.rules.specs.Reading.{elsewhere, displaced, idRead}
 use Rattle.rules.specs.Opening.{slotMap}

@@ -2,12 +2,12 @@
 use Prim.Native.Nat.{ℕ, suc, _≤_}
 use native.Mathlib.Omega.{arith}
 use mathlib.Core.Path.{_≡_, refl, ap, ap₂, sym}
-use mathlib.Core.Bool.{Bool, true, false, not, cond, _&&_, _||_}
+use mathlib.Core.Bool.{Bool, true, false, cond, _&&_, _||_}
 use mathlib.Core.List.{List, [], _∷_}
 use lib.ListN.{length}
-use lib.Dec.{eqb, leb}
-use borrow.Author.Tests.{eqb-true, eqb-false, leb-true, le-leb}
-use Rattle.lists.specs.Lists.{every, fill, between}
+use lib.Dec.{eqb}
+use borrow.Author.Tests.{eqb-true, leb-true, le-leb}
+use Rattle.lists.specs.Lists.{every, fill}
 use Rattle.lists.proofs.Bools.{clash, and-l, and-r, and-i, or-other, not-true}
 use Rattle.records.specs.declared.name.Name.{Name}
 use Rattle.records.specs.Names.{graphic, isName, inBytes, headOr0, zeroEnded, holdsName}

@@ -10,8 +10,8 @@ use Rattle.rules.specs.declared.row.Seen.{Seen}
 use Rattle.rules.specs.State.{State}
 use Rattle.rules.specs.Seen.{Input}
 use Rattle.queue.specs.declared.request.Request.{Request}
-use Rattle.queue.specs.Rows.{Row, rowOf, passedOn, cancelCarrier, carrierOut, atStartedPort, openRow, outStart, outDone}
-use Rattle.queue.specs.Rows.{cancelCarrierOut, cancelAllCarrierOut}
+use Rattle.queue.specs.Rows.{Row, rowOf, passedOn, cancelCarrier, carrierOut, cancelReservationAtPort, loadStart, openRow}
+use Rattle.queue.specs.Rows.{outStart, outDone, cancelCarrierOut, cancelAllCarrierOut}
 
 -- a row that the request leaves as it is
 pub record Plain (n : ℕ) : Type 0 where
@@ -28,8 +28,8 @@ pub record Plain (n : ℕ) : Type 0 where
 pub record EachRow (Q : Row → Type 0) (n : ℕ) (s : State) (q : List Request) (x : Seen) (i : Input) : Type 0 where
   pub cancelCarrier : n ≡ 6 → Q (cancelCarrier q x i)
   pub carrierOut : n ≡ 7 → Q (carrierOut q x)
-  pub cancelReservation : n ≡ 12 → Q (atStartedPort q x i)
-  pub loadStart : n ≡ 13 → Q (atStartedPort q x i)
+  pub cancelReservationAtPort : n ≡ 12 → Q (cancelReservationAtPort q x i)
+  pub loadStart : n ≡ 13 → Q (loadStart q x i)
   pub openRow : n ≡ 19 → Q (openRow q x i)
   pub outStart : n ≡ 27 → Q (outStart s q x i)
   pub outDone : n ≡ 28 → Q (outDone q x i)
@@ -49,7 +49,7 @@ module _ (Q : Row → Type 0) (n : ℕ) where
   pub walk : (s : State) (q : List Request) (x : Seen) (i : Input) → EachRow Q n s q x i → Q (rowOf n s q x i)
   unfolding rowOf
   walk s q x i each =
-      or-else 6 (each .cancelCarrier) (λ a. or-else 7 (each .carrierOut) (λ b. or-else 12 (each .cancelReservation)
+      or-else 6 (each .cancelCarrier) (λ a. or-else 7 (each .carrierOut) (λ b. or-else 12 (each .cancelReservationAtPort)
       (λ c. or-else 13 (each .loadStart) (λ d. or-else 19 (each .openRow) (λ e. or-else 27 (each .outStart)
       (λ f. or-else 28 (each .outDone) (λ g. or-else 29 (each .cancelCarrierOut) (λ h. or-else 30 (each .cancelAllCarrierOut)
       (λ j. each .other (record {

@@ -9,7 +9,7 @@ use Rattle.rules.specs.Seen.{Input, inputOf}
 use Rattle.rules.specs.Reports.{differences}
 use Rattle.rules.specs.Run.{onPort}
 use Rattle.rules.specs.Inputs.{Bind, CancelCarrier, CarrierOut, ChangeServiceStatus, ReserveAtPort, CancelReservationAtPort, LoadStart}
-use Rattle.rules.specs.Inputs.{LoadDone, LoadFail, Open, SlotMap, AccessStart, ProceedWithCarrier, A, B, A16, A17, threes, arrived, stored}
+use Rattle.rules.specs.Inputs.{LoadFail, Open, SlotMap, AccessStart, ProceedWithCarrier, A, B, A16, A17, threes, arrived, stored}
 use Rattle.queue.specs.declared.request.Request.{Request}
 use Rattle.queue.specs.State.{Queued, baseOf, start}
 use Rattle.queue.specs.Outcome.{answerIn, stateAfter}

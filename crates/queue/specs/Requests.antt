@@ -78,7 +78,11 @@ started k q = set q k (begun (getD q k noRequest))
 abbrev pub dropped : Name → List Request → List Request
 dropped n q = without (whereIs (waitsOf n) q) q
 
+-- those that pass a test
+unfoldable pub only : (Request → Bool) → List Request → List Request
+only f [] = []
+only f (r ∷ q) = cond (f r) (r ∷ only f q) (only f q)
+
 -- all are dropped that aren't started
-unfoldable pub allDropped : List Request → List Request
-allDropped [] = []
-allDropped (r ∷ q) = cond (isStarted r) (r ∷ allDropped q) (allDropped q)
+abbrev pub allDropped : List Request → List Request
+allDropped q = only isStarted q

@@ -48,9 +48,13 @@ carrierOut q x = record {
   queue = added (x .name) (x .port) q;
 }
 
--- 12. CancelReservationAtPort(port) and 13. LoadStart(port). 4 also where a request is started to the port.
-abbrev pub atStartedPort : List Request → Seen → Input → Row
-atStartedPort q x i = passedOn (when (any (startedTo (x .port)) q) 4 ∷ []) q i
+-- 12. CancelReservationAtPort(port). 4 also where a request is started to the port.
+abbrev pub cancelReservationAtPort : List Request → Seen → Input → Row
+cancelReservationAtPort q x i = passedOn (when (any (startedTo (x .port)) q) 4 ∷ []) q i
+
+-- 13. LoadStart(port). 4 also where a request is started to the port.
+abbrev pub loadStart : List Request → Seen → Input → Row
+loadStart q x i = passedOn (when (any (startedTo (x .port)) q) 4 ∷ []) q i
 
 -- 19. Open(name). 5 also for a carrier whose request is started.
 abbrev pub openRow : List Request → Seen → Input → Row
@@ -93,8 +97,8 @@ unfoldable pub rowOf : ℕ → State → List Request → Seen → Input → Row
 rowOf n s q x i =
     cond (eqb n 6) (cancelCarrier q x i)
     (cond (eqb n 7) (carrierOut q x)
-    (cond (eqb n 12) (atStartedPort q x i)
-    (cond (eqb n 13) (atStartedPort q x i)
+    (cond (eqb n 12) (cancelReservationAtPort q x i)
+    (cond (eqb n 13) (loadStart q x i)
     (cond (eqb n 19) (openRow q x i)
     (cond (eqb n 27) (outStart s q x i)
     (cond (eqb n 28) (outDone q x i)
