@@ -42,7 +42,7 @@ fn moved_up(m: &mut [u8], o: usize, w: usize, e: usize) -> usize
 }
 
 // An entry goes: what is after it closes up, and the last w bytes before e are zero.
-fn close_up(m: &mut [u8], o: usize, w: usize, e: usize)
+pub fn close_up(m: &mut [u8], o: usize, w: usize, e: usize)
     requires { ⌜ o ≤ e ⌝ }
     requires { ⌜ w ≤ 1891 ⌝ }
     requires { ⌜ e ≤ length (now m) ⌝ }

@@ -1,0 +1,5 @@
+// Request P5: the queue for CarrierOut in the bytes of a tool.
+pub mod find;
+pub mod layout;
+pub mod read;
+pub mod write;
