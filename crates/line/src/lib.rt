@@ -2,4 +2,5 @@
 pub mod find;
 pub mod layout;
 pub mod read;
+pub mod sound;
 pub mod write;
