@@ -2,5 +2,6 @@
 pub mod find;
 pub mod layout;
 pub mod read;
+pub mod ready;
 pub mod sound;
 pub mod write;

@@ -1,6 +1,5 @@
 // Whether the queue is sound, with document 01's tool.
 ghost use mathlib.Core.Path.{_≡_};
-ghost use mathlib.Core.Bool.{_&&_};
 ghost use Prim.Native.Nat.{_≤_, _+_};
 ghost use lib.ListN.{getD, take, drop};
 ghost use Rattle.lists.specs.Lists.{every, everyTwo};
@@ -9,16 +8,18 @@ ghost use Rattle.rules.specs.Held.{Held};
 ghost use Rattle.image.specs.Image.{toolFrom};
 ghost use Rattle.queue.specs.Requests.{noRequest, carrierOf, mayLeave};
 ghost use Rattle.queue.specs.Sound.{keptFree, zeroRequest};
-ghost use Rattle.line.specs.Bytes.{queueFrom};
-ghost use Rattle.line.specs.Tests.{fitsIn, apart};
+ghost use Rattle.line.specs.Bytes.{waitingIn, queueFrom};
+ghost use Rattle.line.specs.Tests.{fitsIn, apart, soundLine};
 use crate::layout::*;
 use crate::read::request_at;
+use crate::read::waiting;
 use image::layout::*;
 use image::read::port_at;
 use image::read::used;
 use passes::bytes::zeros;
 use queue::request::*;
 use records::carrier::Carrier;
+use records::choose::wide;
 use records::name::Name;
 use records::port::Port;
 use records::words::*;
@@ -70,4 +71,80 @@ fn other(a: Request, b: Request) -> bool
     let same = a.name.same(b.name);
     let alone = !((a.started == 1) & (b.started == 1)) | !(a.port == b.port);
     !same & alone
+}
+
+// Each of the first n.
+fn all_fit<'a>(base: &'a [u8; TOOL_BYTES], own: &'a [u8; TOOL_BYTES], n: usize) -> bool
+    requires { ⌜ Held (toolFrom (now base)) ⌝ }
+    requires { ⌜ n ≤ 16 ⌝ }
+    ensures { λ r. ⌜ r ≡ every (fitsIn (stateOf (toolFrom (now (base .entry))))) (take n (queueFrom (now (own .entry)))) ⌝ }
+{
+    let mut ok = true;
+    let mut k = n;
+    while 0 < k {
+        k -= 1;
+        let r = request_at(own, k);
+        ok = fits(base, r) & ok;
+    }
+    ok
+}
+
+// The request at k, with each of the first n after it.
+fn apart_after(own: &[u8; TOOL_BYTES], k: usize, n: usize) -> bool
+    requires { ⌜ k + 1 ≤ n ⌝ }
+    requires { ⌜ n ≤ 16 ⌝ }
+    ensures { λ r. ⌜ r ≡ every (apart (getD (queueFrom (now (own .entry))) k noRequest)) (drop (k + 1) (take n (queueFrom (now (own .entry))))) ⌝ }
+{
+    let a = request_at(own, k);
+    let mut ok = true;
+    let mut j = n;
+    while k + 1 < j {
+        j -= 1;
+        let b = request_at(own, j);
+        ok = other(a, b) & ok;
+    }
+    ok
+}
+
+// Every two of the first n.
+fn all_apart(own: &[u8; TOOL_BYTES], n: usize) -> bool
+    requires { ⌜ n ≤ 16 ⌝ }
+    ensures { λ r. ⌜ r ≡ everyTwo apart (take n (queueFrom (now (own .entry)))) ⌝ }
+{
+    let mut ok = true;
+    let mut k = n;
+    while 0 < k {
+        k -= 1;
+        ok = apart_after(own, k, n) & ok;
+    }
+    ok
+}
+
+// There is no request after the first n.
+fn none_after(own: &[u8; TOOL_BYTES], n: usize) -> bool
+    requires { ⌜ n ≤ 16 ⌝ }
+    ensures { λ r. ⌜ r ≡ every zeroRequest (drop n (queueFrom (now (own .entry)))) ⌝ }
+{
+    let mut ok = true;
+    let mut k = QUEUE;
+    while n < k {
+        k -= 1;
+        ok = zeros(own, QUEUE_START + REQUEST_BYTES * k, REQUEST_BYTES) & ok;
+    }
+    ok
+}
+
+// Whether the queue is sound, with document 01's tool, which is.
+pub fn sound_queue<'a>(base: &'a [u8; TOOL_BYTES], own: &'a [u8; TOOL_BYTES]) -> bool
+    requires { ⌜ Held (toolFrom (now base)) ⌝ }
+    ensures { λ r. ⌜ r ≡ soundLine (stateOf (toolFrom (now (base .entry)))) (waitingIn (now (own .entry))) (queueFrom (now (own .entry))) ⌝ }
+{
+    let n = wide(waiting(own));
+    if n <= QUEUE {
+        let none = none_after(own, n);
+        let fit = all_fit(base, own, n);
+        none & fit & all_apart(own, n)
+    } else {
+        false
+    }
 }
