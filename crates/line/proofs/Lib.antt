@@ -3,3 +3,4 @@ pub mod Passing
 pub mod Written
 pub mod Named
 pub mod Zero
+pub mod Tested
