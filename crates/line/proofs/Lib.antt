@@ -4,3 +4,4 @@ pub mod Written
 pub mod Named
 pub mod Zero
 pub mod Tested
+pub mod Left

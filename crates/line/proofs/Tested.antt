@@ -1,13 +1,13 @@
 -- What the code tests of the queue is its soundness, where the tool below is sound.
 use Prim.Native.Nat.{ℕ, _≤_, _<_}
 use native.Mathlib.Omega.{arith}
-use mathlib.Core.Path.{_≡_, refl, sym, _∙_}
-use mathlib.Core.Bool.{Bool, true, false, _&&_}
+use mathlib.Core.Path.{_≡_}
+use mathlib.Core.Bool.{true, _&&_}
 use mathlib.Core.List.{List}
 use lib.ListN.{length, getD, take, drop}
 use lib.Seq.{length-take-le}
 use lib.Dec.{leb}
-use borrow.Author.Tests.{leb-true, le-leb}
+use borrow.Author.Tests.{leb-true}
 use Rattle.lists.specs.Lists.{every, everyTwo}
 use Rattle.lists.proofs.Bools.{and-l, and-r, and-i, same-test}
 use Rattle.lists.proofs.Tests.{every-at, two-at}
@@ -17,8 +17,8 @@ use Rattle.maps.specs.Sound as maps
 use Rattle.maps.proofs.SoundTools as maps-tools
 use Rattle.queue.specs.declared.request.Request.{Request}
 use Rattle.queue.specs.Requests.{noRequest}
-use Rattle.queue.specs.State.{Queued, baseOf, QueuedTool, stateOf}
-use Rattle.queue.specs.Sound.{requestInRange, carrierStored, otherCarrier, carrierShut, aloneThere, portKept, sound, zeroRequest, soundTool}
+use Rattle.queue.specs.State.{baseOf, QueuedTool, stateOf}
+use Rattle.queue.specs.Sound.{otherCarrier, sound, zeroRequest, soundTool}
 use Rattle.queue.proofs.Lines.{Line}
 use Rattle.queue.proofs.SoundRuns.{sound-parts, sound-of}
 use Rattle.queue.proofs.SoundTools.{tool-sound}
@@ -53,7 +53,8 @@ module _ (t : QueuedTool) (h : maps.soundTool (t .mapped) ≡ true) (long : leng
       stored = every-all _ used noRequest (λ k b. let o = fits-at k b in search (and-l, and-r) depth 5);
       others = two-all _ used noRequest (λ j k a b. and-l _ _ (apart-at j k a b));
       shut = every-all _ used noRequest (λ k b. let o = fits-at k b in search (and-l, and-r) depth 5);
-      alone = two-all _ used noRequest (λ j k a b. and-r (otherCarrier (getD used j noRequest) (getD used k noRequest)) _ (apart-at j k a b));
+      alone = two-all _ used noRequest
+          (λ j k a b. and-r (otherCarrier (getD used j noRequest) (getD used k noRequest)) _ (apart-at j k a b));
       kept = every-all _ used noRequest (λ k b. let o = fits-at k b in search (and-l, and-r) depth 5);
     }
 

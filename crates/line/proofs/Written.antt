@@ -1,17 +1,17 @@
 -- Requests in the bytes: one is written, one goes.
-use Prim.Native.Nat.{ℕ, suc, _+_, _*_, _<_, _≤_}
+use Prim.Native.Nat.{ℕ, suc, _+_, _<_, _≤_}
 use native.Mathlib.Omega.{arith}
-use mathlib.Core.Path.{_≡_, refl, ap, ap₂, sym, subst, _∙_}
+use mathlib.Core.Path.{_≡_, refl, ap, sym, subst, _∙_}
 use mathlib.Core.Logic.{_≢_}
 use mathlib.Core.Bool.{Bool, true, false}
 use mathlib.Core.List.{List, [], _∷_, _++_}
-use lib.ListN.{length, getD, set, replicate, length-append, List·getD-eq-default}
+use lib.ListN.{length, set, replicate, length-append, List·getD-eq-default}
 use lib.Seq.{sets}
 use lib.Dec.{ltb}
 use borrow.Author.Tests.{ltb-true, ltb-false}
 use Rattle.lists.specs.Lists.{shifted}
 use Rattle.records.specs.declared.name.Name.{Name}
-use Rattle.image.specs.Image.{table, byteAt, bytesFrom, nameFrom}
+use Rattle.image.specs.Image.{table, byteAt}
 use Rattle.image.proofs.Table.{table-same, table-set, table-shifted, table-const, getD-table, length-table, is-table}
 use Rattle.image.proofs.Written.{before-stays, after-stays, stands-there}
 use Rattle.image.proofs.Laid.{split}
@@ -39,7 +39,8 @@ length-request r e = length-append (r .name .bytes) (r .port ∷ r .started ∷ 
 request-back : (r : Request) → length (r .name .bytes) ≡ 16 → requestFrom (requestBytes r) 0 ≡ r
 unfolding table requestBytes
 request-back r e =
-    subst (λ n. requestFrom (n ++ (r .port ∷ r .started ∷ [])) 0 ≡ record { name = record { bytes = n }; port = r .port; started = r .started })
+    subst (λ n. requestFrom (n ++ (r .port ∷ r .started ∷ [])) 0
+    ≡ record { name = record { bytes = n }; port = r .port; started = r .started })
     (is-table (r .name .bytes) 16 0 e) refl
 
 pub request-made : (n : List ℕ) (p s : ℕ) → length n ≡ 16 → set (set (sets (replicate 18 0) 0 n) 16 p) 17 s ≡ n ++ (p ∷ s ∷ [])
@@ -71,8 +72,10 @@ module _ (m : List ℕ) (full : length m ≡ 1891) (k : ℕ) (b : k < 16) where
     others j c d =
         let l = length-request r wide in
         split j k d
-        (λ h. request-same after m (requestStart j) (requestStart j) (λ i o. before-stays m (requestStart k) x (requestStart j + i) (omega arith)))
-        (λ h. request-same after m (requestStart j) (requestStart j) (λ i o. after-stays m (requestStart k) x (requestStart j + i) (omega arith)))
+        (λ h. request-same after m (requestStart j) (requestStart j)
+        (λ i o. before-stays m (requestStart k) x (requestStart j + i) (omega arith)))
+        (λ h. request-same after m (requestStart j) (requestStart j)
+        (λ i o. after-stays m (requestStart k) x (requestStart j + i) (omega arith)))
 
     pub queue-put : queueFrom after ≡ set (queueFrom m) k r
     unfolding queueFrom

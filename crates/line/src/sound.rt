@@ -93,7 +93,8 @@ fn all_fit<'a>(base: &'a [u8; TOOL_BYTES], own: &'a [u8; TOOL_BYTES], n: usize) 
 fn apart_after(own: &[u8; TOOL_BYTES], k: usize, n: usize) -> bool
     requires { ⌜ k + 1 ≤ n ⌝ }
     requires { ⌜ n ≤ 16 ⌝ }
-    ensures { λ r. ⌜ r ≡ every (apart (getD (queueFrom (now (own .entry))) k noRequest)) (drop (k + 1) (take n (queueFrom (now (own .entry))))) ⌝ }
+    ensures { λ r. ⌜ r ≡ every (apart (getD (queueFrom (now (own .entry))) k noRequest))
+        (drop (k + 1) (take n (queueFrom (now (own .entry))))) ⌝ }
 {
     let a = request_at(own, k);
     let mut ok = true;
@@ -137,7 +138,8 @@ fn none_after(own: &[u8; TOOL_BYTES], n: usize) -> bool
 // Whether the queue is sound, with document 01's tool, which is.
 pub fn sound_queue<'a>(base: &'a [u8; TOOL_BYTES], own: &'a [u8; TOOL_BYTES]) -> bool
     requires { ⌜ Held (toolFrom (now base)) ⌝ }
-    ensures { λ r. ⌜ r ≡ soundLine (stateOf (toolFrom (now (base .entry)))) (waitingIn (now (own .entry))) (queueFrom (now (own .entry))) ⌝ }
+    ensures { λ r. ⌜ r ≡ soundLine (stateOf (toolFrom (now (base .entry)))) (waitingIn (now (own .entry)))
+        (queueFrom (now (own .entry))) ⌝ }
 {
     let n = wide(waiting(own));
     if n <= QUEUE {

@@ -54,4 +54,5 @@ returns c =
 pub ready-stands-spec : {M : Type 1} → statement M
 ready-stands-spec =
     tie.close
-    (tie.spec Inv-loop μ-loop loop-holds (λ c. search needs) (λ c κs. tt) (λ c κs. search needs) (λ c κs. tt) (λ c. search needs) loop-again returns)
+    (tie.spec Inv-loop μ-loop loop-holds (λ c. search needs) (λ c κs. tt) (λ c κs. search needs) (λ c κs. tt)
+    (λ c. search needs) loop-again returns)

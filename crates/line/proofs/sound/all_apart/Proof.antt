@@ -2,8 +2,8 @@
 use borrow.Author.Needs.{needs}
 use native.Mathlib.Omega.{arith}
 use Prim.Native.Nat.{_+_, _≤_, _-_}
-use mathlib.Core.Path.{_≡_, _∙_}
-use lib.ListN.{getD, drop, take}
+use mathlib.Core.Path.{_≡_}
+use lib.ListN.{drop, take}
 use Rattle.lists.specs.Lists.{everyTwo}
 use Rattle.lists.proofs.Loops.{back-in, ended-in}
 use Rattle.queue.specs.Requests.{noRequest}

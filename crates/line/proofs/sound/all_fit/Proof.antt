@@ -1,9 +1,9 @@
 -- From the end: the requests that are passed fit.
 use borrow.Author.Needs.{needs}
 use native.Mathlib.Omega.{arith}
-use Prim.Native.Nat.{_≤_, _-_}
-use mathlib.Core.Path.{_≡_, _∙_}
-use lib.ListN.{getD, drop, take}
+use Prim.Native.Nat.{_≤_}
+use mathlib.Core.Path.{_≡_}
+use lib.ListN.{drop, take}
 use Rattle.lists.specs.Lists.{every}
 use Rattle.lists.proofs.Loops.{back-in, ended-in}
 use Rattle.rules.specs.State.{stateOf}

@@ -1,9 +1,9 @@
 -- From the end: the requests that are passed are apart from this one.
 use borrow.Author.Needs.{needs}
 use native.Mathlib.Omega.{arith}
-use Prim.Native.Nat.{_+_, _≤_, _-_}
-use mathlib.Core.Path.{_≡_, _∙_}
-use lib.ListN.{getD, drop, take}
+use Prim.Native.Nat.{_+_, _≤_}
+use mathlib.Core.Path.{_≡_}
+use lib.ListN.{drop, take}
 use Rattle.lists.specs.Lists.{every}
 use Rattle.lists.proofs.Loops.{back-in, ended-in}
 use Rattle.queue.specs.Requests.{noRequest}
@@ -47,4 +47,5 @@ returns c =
 pub apart-after-spec : {M : Type 1} → statement M
 apart-after-spec =
     tie.close
-    (tie.spec Inv-loop μ-loop (λ c κs. tt) loop-holds (λ c. search needs) (λ c. search needs) (λ c κs. tt) (λ c κs. tt) (λ c. search needs) loop-again returns)
+    (tie.spec Inv-loop μ-loop (λ c κs. tt) loop-holds (λ c. search needs) (λ c. search needs) (λ c κs. tt) (λ c κs. tt)
+    (λ c. search needs) loop-again returns)

@@ -1,9 +1,9 @@
 -- From the end: the requests that are passed are zero.
 use borrow.Author.Needs.{needs}
 use native.Mathlib.Omega.{arith}
-use Prim.Native.Nat.{_+_, _≤_, _-_}
-use mathlib.Core.Path.{_≡_, sym, _∙_}
-use lib.ListN.{getD, drop}
+use Prim.Native.Nat.{_≤_, _-_}
+use mathlib.Core.Path.{_≡_}
+use lib.ListN.{drop}
 use Rattle.lists.specs.Lists.{every}
 use Rattle.lists.proofs.Loops.{back, ended}
 use Rattle.queue.specs.Requests.{noRequest}

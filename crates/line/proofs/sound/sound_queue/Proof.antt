@@ -1,9 +1,6 @@
 use borrow.Author.Needs.{needs}
-use native.Mathlib.Omega.{arith}
 use mathlib.Core.Path.{_≡_, _∙_}
-use mathlib.Core.Bool.{false}
 use borrow.Author.Tests.{le-leb, lt-leb}
-use lib.Dec.{leb}
 use Rattle.line.specs.Bytes.{waitingIn}
 use Rattle.line.specs.Tests.{soundLine}
 use Rattle.line.proofs.sound.sound_queue.Statement.{statement}
@@ -17,7 +14,13 @@ unfolding soundLine
 returns c =
     let d = c .before .before .before in
     let e = counted (d .before) in
-    rw (c .all-apart .ensures, c .before .all-fit .ensures, c .before .before .none-after .ensures, e, le-leb _ 16 (rw e at (d .if1 .taken)))
+    rw (
+      c .all-apart .ensures,
+      c .before .all-fit .ensures,
+      c .before .before .none-after .ensures,
+      e,
+      le-leb _ 16 (rw e at (d .if1 .taken)),
+    )
 
 returns-2 : tie.Need-returns-2
 unfolding soundLine
@@ -28,4 +31,5 @@ returns-2 c =
 pub sound-queue-spec : {M : Type 1} → statement M
 sound-queue-spec =
     tie.close
-    (tie.spec (λ c κs. tt) (λ c κs. tt) (λ c κs. search needs) (λ c κs. (search needs, search needs)) (λ c κs. search needs) returns returns-2)
+    (tie.spec (λ c κs. tt) (λ c κs. tt) (λ c κs. search needs) (λ c κs. (search needs, search needs)) (λ c κs. search needs)
+    returns returns-2)

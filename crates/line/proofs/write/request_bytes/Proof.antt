@@ -21,4 +21,6 @@ returns c =
     (rw (c .before .put .ensures) (request-made (a .name .bytes) (a .port) (a .started) (name-long s)), name-long s)
 
 pub request-bytes-spec : {M : Type 1} → statement M
-request-bytes-spec = tie.close (tie.spec (λ c. search needs) (λ c. search needs) put-requires (λ c. search needs) (λ c. search needs) returns)
+request-bytes-spec =
+    tie.close
+    (tie.spec (λ c. search needs) (λ c. search needs) put-requires (λ c. search needs) (λ c. search needs) returns)
