@@ -17,3 +17,4 @@ pub mod Lined
 pub mod Ended
 pub mod Allowed
 pub mod Named
+pub mod HeldBack
