@@ -18,3 +18,4 @@ pub mod Ended
 pub mod Allowed
 pub mod Named
 pub mod HeldBack
+pub mod Passed
