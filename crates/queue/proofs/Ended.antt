@@ -50,7 +50,7 @@ row-start : (n : ℕ) (s : State) (q : List Request) (x : Seen) (i : Input) → 
 unfolding rowOf
 row-start n s q x i e = rw e
 
-row-done : (n : ℕ) (s : State) (q : List Request) (x : Seen) (i : Input) → n ≡ 28 → rowOf n s q x i ≡ outDone q x i
+pub row-done : (n : ℕ) (s : State) (q : List Request) (x : Seen) (i : Input) → n ≡ 28 → rowOf n s q x i ≡ outDone q x i
 unfolding rowOf
 row-done n s q x i e = rw e
 
@@ -182,7 +182,7 @@ module _ (s : Queued) (i : Input) (h : sound s ≡ true) (z : i .number ≡ 28) 
   stored : inBuffer (carrierOf (baseOf s) n) ≡ true
   stored = rw ending-is at (can-come s i p given some .stored)
 
-  base-then : baseOf (stateAfter s i) ≡ row.enact (handsOut (baseOf s) there n) (baseOf s)
+  pub base-then : baseOf (stateAfter s i) ≡ row.enact (handsOut (baseOf s) there n) (baseOf s)
   unfolding maps-runs.reached
   base-then =
       ap baseOf (accepted-is s i done-accepted)
@@ -245,7 +245,7 @@ module _ (s : Queued) (i : Input) (h : sound s ≡ true) (z : i .number ≡ 28) 
   }
 
 -- what soundness says of a request that is under way
-held : (s : Queued) → sound s ≡ true → (n : Name) (p : ℕ) → isUnderWay n p (s .queue) ≡ true → HeldFor s n p
+pub held : (s : Queued) → sound s ≡ true → (n : Name) (p : ℕ) → isUnderWay n p (s .queue) ≡ true → HeldFor s n p
 unfolding isUnderWay
 held s h n p e =
     let t = any-found (λ r. isOf n r && startedTo p r) (s .queue) noRequest e in

@@ -48,7 +48,7 @@ no-port-not-free : keptFree noPort ≡ false
 unfolding keptFree sameName sameList
 no-port-not-free = refl
 
-nobody : holdsName noName ≡ false
+pub nobody : holdsName noName ≡ false
 unfolding holdsName zeroEnded headOr0
 nobody = refl
 

@@ -1,0 +1,1 @@
+// Request P5: the tool with its queue.
