@@ -1,2 +1,3 @@
 // Tables beside the records, which follow them.
+pub mod blocks;
 pub mod table;

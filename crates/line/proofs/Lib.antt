@@ -5,3 +5,4 @@ pub mod Named
 pub mod Zero
 pub mod Tested
 pub mod Left
+pub mod Changed

@@ -9,9 +9,11 @@ use queue::request::*;
 use records::choose::either;
 use records::name::Name;
 
-// Where the request of a name stands, and the one that is started to a port.
+// Where the request of a name stands, the same if it waits and if it is started, and the one that is started to a port.
 pub struct Found {
     pub of: usize,
+    pub waits: usize,
+    pub runs: usize,
     pub to: usize,
 }
 
@@ -19,9 +21,14 @@ pub struct Found {
 fn gather(f: Found, r: Request, name: Name, port: u8, k: usize) -> Found
     ensures { λ g. ⌜ g ≡ gathered name port k r f ⌝ }
 {
-    let of = either(r.name.same(name), k, f.of);
-    let to = either((r.port == port) & (r.started == 1), k, f.to);
-    Found { of, to }
+    let its = r.name.same(name);
+    let begun = r.started == 1;
+    Found {
+        of: either(its, k, f.of),
+        waits: either(its & !begun, k, f.waits),
+        runs: either(its & begun, k, f.runs),
+        to: either((r.port == port) & begun, k, f.to),
+    }
 }
 
 // Among the first n.
@@ -29,7 +36,12 @@ pub fn find(m: &[u8; TOOL_BYTES], n: usize, name: Name, port: u8) -> Found
     requires { ⌜ n ≤ 16 ⌝ }
     ensures { λ r. ⌜ r ≡ foundIn (take n (queueFrom (now (m .entry)))) name port ⌝ }
 {
-    let mut f = Found { of: n, to: n };
+    let mut f = Found {
+        of: n,
+        waits: n,
+        runs: n,
+        to: n,
+    };
     let mut k = n;
     while 0 < k {
         k -= 1;

@@ -1,7 +1,8 @@
 // Which request OutStart takes.
 ghost use mathlib.Core.Path.{_≡_};
 ghost use Prim.Native.Nat.{_≤_};
-ghost use lib.ListN.{take};
+ghost use mathlib.Core.List.{[]};
+ghost use lib.ListN.{getD, take};
 ghost use Rattle.lists.specs.Lists.{whereIs};
 ghost use Rattle.rules.specs.State.{stateOf};
 ghost use Rattle.rules.specs.Held.{Held};
@@ -11,6 +12,7 @@ ghost use Rattle.line.specs.Bytes.{queueFrom};
 use crate::read::request_at;
 use crate::sound::carrier_named;
 use crate::sound::may_leave;
+use follow::blocks::BLOCKS;
 use image::layout::TOOL_BYTES;
 use queue::request::*;
 use records::choose::either;
@@ -25,22 +27,18 @@ fn is_ready(base: &[u8; TOOL_BYTES], r: Request, port: u8) -> bool
 }
 
 // Where the oldest of the first n stands that is ready for a port; n where there is none.
-pub fn ready_stands<'a>(
-    base: &'a [u8; TOOL_BYTES],
-    own: &'a [u8; TOOL_BYTES],
-    n: usize,
-    port: u8,
-) -> usize
-    requires { ⌜ Held (toolFrom (now base)) ⌝ }
+pub fn ready_stands(m: &[[u8; TOOL_BYTES]; BLOCKS], n: usize, port: u8) -> usize
+    requires { ⌜ Held (toolFrom (getD (now m) 0 [])) ⌝ }
     requires { ⌜ n ≤ 16 ⌝ }
-    ensures { λ r. ⌜ r ≡ whereIs (isReady (stateOf (toolFrom (now (base .entry)))) port) (take n (queueFrom (now (own .entry)))) ⌝ }
+    ensures { λ r. ⌜ r ≡ whereIs (isReady (stateOf (toolFrom (getD (now (m .entry)) 0 []))) port)
+        (take n (queueFrom (getD (now (m .entry)) 1 []))) ⌝ }
 {
     let mut stands = n;
     let mut k = n;
     while 0 < k {
         k -= 1;
-        let r = request_at(own, k);
-        stands = either(is_ready(base, r, port), k, stands);
+        let r = request_at(&m[1], k);
+        stands = either(is_ready(&m[0], r, port), k, stands);
     }
     stands
 }

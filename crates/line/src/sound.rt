@@ -1,6 +1,7 @@
 // Whether the queue is sound, with document 01's tool.
 ghost use mathlib.Core.Path.{_≡_};
 ghost use Prim.Native.Nat.{_≤_, _+_};
+ghost use mathlib.Core.List.{[]};
 ghost use lib.ListN.{getD, take, drop};
 ghost use Rattle.lists.specs.Lists.{every, everyTwo};
 ghost use Rattle.rules.specs.State.{stateOf};
@@ -13,6 +14,7 @@ ghost use Rattle.line.specs.Tests.{fitsIn, apart, soundLine};
 use crate::layout::*;
 use crate::read::request_at;
 use crate::read::waiting;
+use follow::blocks::BLOCKS;
 use image::layout::*;
 use image::read::port_at;
 use image::read::used;
@@ -74,17 +76,18 @@ fn other(a: Request, b: Request) -> bool
 }
 
 // Each of the first n.
-fn all_fit<'a>(base: &'a [u8; TOOL_BYTES], own: &'a [u8; TOOL_BYTES], n: usize) -> bool
-    requires { ⌜ Held (toolFrom (now base)) ⌝ }
+fn all_fit(m: &[[u8; TOOL_BYTES]; BLOCKS], n: usize) -> bool
+    requires { ⌜ Held (toolFrom (getD (now m) 0 [])) ⌝ }
     requires { ⌜ n ≤ 16 ⌝ }
-    ensures { λ r. ⌜ r ≡ every (fitsIn (stateOf (toolFrom (now (base .entry))))) (take n (queueFrom (now (own .entry)))) ⌝ }
+    ensures { λ r. ⌜ r ≡ every (fitsIn (stateOf (toolFrom (getD (now (m .entry)) 0 []))))
+        (take n (queueFrom (getD (now (m .entry)) 1 []))) ⌝ }
 {
     let mut ok = true;
     let mut k = n;
     while 0 < k {
         k -= 1;
-        let r = request_at(own, k);
-        ok = fits(base, r) & ok;
+        let r = request_at(&m[1], k);
+        ok = fits(&m[0], r) & ok;
     }
     ok
 }
@@ -136,16 +139,16 @@ fn none_after(own: &[u8; TOOL_BYTES], n: usize) -> bool
 }
 
 // Whether the queue is sound, with document 01's tool, which is.
-pub fn sound_queue<'a>(base: &'a [u8; TOOL_BYTES], own: &'a [u8; TOOL_BYTES]) -> bool
-    requires { ⌜ Held (toolFrom (now base)) ⌝ }
-    ensures { λ r. ⌜ r ≡ soundLine (stateOf (toolFrom (now (base .entry)))) (waitingIn (now (own .entry)))
-        (queueFrom (now (own .entry))) ⌝ }
+pub fn sound_queue(m: &[[u8; TOOL_BYTES]; BLOCKS]) -> bool
+    requires { ⌜ Held (toolFrom (getD (now m) 0 [])) ⌝ }
+    ensures { λ r. ⌜ r ≡ soundLine (stateOf (toolFrom (getD (now (m .entry)) 0 []))) (waitingIn (getD (now (m .entry)) 1 []))
+        (queueFrom (getD (now (m .entry)) 1 [])) ⌝ }
 {
-    let n = wide(waiting(own));
+    let n = wide(waiting(&m[1]));
     if n <= QUEUE {
-        let none = none_after(own, n);
-        let fit = all_fit(base, own, n);
-        none & fit & all_apart(own, n)
+        let none = none_after(&m[1], n);
+        let fit = all_fit(m, n);
+        none & fit & all_apart(&m[1], n)
     } else {
         false
     }
