@@ -11,8 +11,8 @@ use lib.Seq.{getD-set-same}
 use lib.Dec.{eqb}
 use borrow.Author.Tests.{eqb-true, eq-eqb}
 use Rattle.lists.specs.Lists.{any, every, without}
-use Rattle.lists.proofs.Bools.{clash, and-l, and-r, not-true}
-use Rattle.lists.proofs.Tests.{any-here, any-gone}
+use Rattle.lists.proofs.Bools.{clash, and-l, and-r, and-i, not-true}
+use Rattle.lists.proofs.Tests.{any-here, any-gone, where-holds}
 use Rattle.lists.proofs.Parts.{any-found}
 use Rattle.records.specs.declared.name.Name.{Name}
 use Rattle.records.specs.declared.carrier.Carrier.{Carrier}
@@ -27,21 +27,23 @@ use Rattle.rules.proofs.Names.{name-is, name-same}
 use Rattle.rules.proofs.Apt.{Apt}
 use Rattle.rules.proofs.SoundParts.{Facts}
 use Rattle.rules.proofs.Keep.{port-after}
+use Rattle.rules.specs.Inputs.{CancelReservationAtPort, CarrierOut}
+use Rattle.maps.specs.Outcome as maps
 use Rattle.maps.specs.Projection as maps-runs
 use Rattle.queue.specs.declared.request.Request.{Request}
 use Rattle.queue.specs.Requests.{noRequest, begun, isStarted, isOf, startedTo, isReady, isQueued, carrierOf}
 use Rattle.queue.specs.Requests.{readyStands, startedStands}
 use Rattle.queue.specs.State.{Queued, baseOf}
 use Rattle.queue.specs.Sound.{sound}
-use Rattle.queue.specs.Rows.{Row, rowOf, outStart, outDone, comesOut}
-use Rattle.queue.specs.Outcome.{rowIn, answersIn, answerIn, enact, stateAfter}
+use Rattle.queue.specs.Rows.{Row, textOf, rowOf, outStart, outDone, comesOut}
+use Rattle.queue.specs.Outcome.{rowIn, answersIn, answerIn, enact, stateAfter, goesIn, madeIn}
 use Rattle.queue.specs.Projection.{reached}
 use Rattle.queue.specs.Dispatch.{isUnderWay, isDone, noneDone, TakesOldest, HandedOut, HeldFor}
-use Rattle.queue.proofs.Lines.{port-at, stored-at, shut-at, kept-at, names-at, ports-at}
+use Rattle.queue.proofs.Lines.{port-at, stored-at, shut-at, kept-at, names-at, ports-at, some-stands}
 use Rattle.queue.proofs.Places.{first-one}
 use Rattle.queue.proofs.After.{stored-live, carrier-named, found-again, stands-after}
 use Rattle.queue.proofs.Below.{base-facts}
-use Rattle.queue.proofs.Outs.{handsOut, spot-in, together}
+use Rattle.queue.proofs.Outs.{handsOut, spot-in, hands-out, together, maps-still}
 use Rattle.queue.proofs.SoundRuns.{Sound, sound-parts, sound-after, sound-reached, own-zero, below-zero, is-ready, taken-in}
 use Rattle.queue.proofs.SoundRuns.{ending-in, ending-port, ending-started, can-come, done-zero}
 use Rattle.queue.proofs.Lined.{under-way-after}
@@ -54,7 +56,7 @@ pub row-done : (n : ℕ) (s : State) (q : List Request) (x : Seen) (i : Input) �
 unfolding rowOf
 row-done n s q x i e = rw e
 
-accepted-is : (s : Queued) (i : Input) → answerIn s i ≡ 0 → stateAfter s i ≡ enact (rowIn s i) s
+pub accepted-is : (s : Queued) (i : Input) → answerIn s i ≡ 0 → stateAfter s i ≡ enact (rowIn s i) s
 unfolding stateAfter
 accepted-is s i a = rw a
 
@@ -107,6 +109,16 @@ module _ (s : Queued) (i : Input) (h : sound s ≡ true) (z : i .number ≡ 27) 
   })
 
 -- ── OutDone ──
+-- the request that is started to a port is under way there
+pub under-way-there : (p : ℕ) (q : List Request) → any (startedTo p) q ≡ true
+    → isUnderWay (getD q (startedStands p q) noRequest .name) p q ≡ true
+unfolding isUnderWay
+under-way-there p q some =
+    let r = getD q (startedStands p q) noRequest in
+    let b = some-stands (startedTo p) noRequest q some in
+    any-here (λ t. isOf (r .name) t && startedTo p t) q (startedStands p q) noRequest b
+    (and-i (name-same (r .name) (r .name) refl) (where-holds (startedTo p) q noRequest b))
+
 module _ (s : Queued) (i : Input) (h : sound s ≡ true) (z : i .number ≡ 28) (n : Name)
     (e : isUnderWay n (narrow (i .port)) (s .queue) ≡ true) where
   abbrev p : Sound s
@@ -191,6 +203,31 @@ module _ (s : Queued) (i : Input) (h : sound s ≡ true) (z : i .number ≡ 28) 
       ∙ together (s .mapped) (i .port) (ending .name) (p .mapped) (can-come s i p given some)
       ∙ ap (λ n. row.enact (handsOut (baseOf s) there n) (baseOf s)) ending-is
 
+  -- the maps stay; no record goes, and none is made
+  pub maps-then : stateAfter s i .mapped .maps ≡ s .mapped .maps
+  unfolding maps-runs.reached
+  maps-then =
+      ap (λ (t : Queued). t .mapped .maps) (accepted-is s i done-accepted)
+      ∙ ap (λ (w : Row). maps-runs.reached (s .mapped) (w .stands) .maps) done-row
+      ∙ ap (λ run. maps-runs.reached (s .mapped) run .maps) stands-then
+      ∙ maps-still (s .mapped) (i .port) (ending .name) (p .mapped) (can-come s i p given some)
+
+  last-effect : maps.rowIn (maps.stateAfter (s .mapped) (CancelReservationAtPort (i .port)))
+      (CarrierOut (textOf (ending .name)) (i .port)) .effect ≡ handsOut (baseOf s) there (ending .name)
+  last-effect = hands-out (s .mapped) (i .port) (ending .name) (p .mapped) (can-come s i p given some)
+
+  pub goes-then : goesIn (s .mapped) (rowIn s i .stands) ≡ length (baseOf s .carriers)
+  unfolding goesIn maps-runs.reached
+  goes-then =
+      ap (λ (w : Row). goesIn (s .mapped) (w .stands)) done-row ∙ ap (goesIn (s .mapped)) stands-then
+      ∙ ap (λ (e : Effect). e .goes) last-effect
+
+  pub made-then : madeIn (s .mapped) (rowIn s i .stands) ≡ false
+  unfolding madeIn maps-runs.reached
+  made-then =
+      ap (λ (w : Row). madeIn (s .mapped) (w .stands)) done-row ∙ ap (madeIn (s .mapped)) stands-then
+      ∙ ap (λ (e : Effect). e .made) last-effect
+
   -- the effect, and the carrier at the port
   abbrev effect : Effect
   effect = handsOut (baseOf s) there n
@@ -234,7 +271,7 @@ module _ (s : Queued) (i : Input) (h : sound s ≡ true) (z : i .number ≡ 28) 
           absurd (names-at (baseOf s) line (p .line) k m b (ending-in s i p given some) o (name-is _ _ w ∙ sym ending-is))
       go k b o false w = refl
 
-  queue-left : stateAfter s i .queue ≡ without m line
+  pub queue-left : stateAfter s i .queue ≡ without m line
   queue-left = ap (λ (t : Queued). t .queue) (accepted-is s i done-accepted) ∙ ap (λ (w : Row). w .queue) done-row
 
   pub handed-out : HandedOut s n there (stateAfter s i)

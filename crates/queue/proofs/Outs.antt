@@ -1,8 +1,9 @@
 -- OutStart's and OutDone's inputs below: row 11 keeps the port free; rows 12 and 7 are accepted, and together they are one effect.
-use Prim.Native.Nat.{ℕ, _-_, _<_}
+use Prim.Native.Nat.{ℕ, _-_, _<_, _≤_}
 use native.Mathlib.Omega.{arith}
-use mathlib.Core.Path.{_≡_, refl, sym, subst, _∙_}
+use mathlib.Core.Path.{_≡_, refl, ap, sym, subst, _∙_}
 use mathlib.Core.Bool.{Bool, true, false, not}
+use mathlib.Core.List.{List, []}
 use lib.ListN.{length, set, length-set}
 use lib.Seq.{set-out, set-set, getD-set-same}
 use lib.Dec.{eqb, leb}
@@ -32,7 +33,8 @@ use Rattle.rules.proofs.Apt.{Apt}
 use Rattle.rules.proofs.SoundParts.{Facts}
 use Rattle.rules.proofs.KeepSeen.{given-range, held-live, held-tied, nobody-tied}
 use Rattle.rules.proofs.Keep.{port-after}
-use Rattle.maps.specs.Expected.{carries}
+use Rattle.follow.specs.Follow.{followed}
+use Rattle.maps.specs.Expected.{carries, newMap}
 use Rattle.maps.specs.State.{Mapped}
 use Rattle.maps.specs.Sound as maps-sound
 use Rattle.maps.specs.Rows as maps-rows
@@ -45,6 +47,11 @@ use Rattle.queue.proofs.Free.{Free, free-is, nobody-there}
 use Rattle.queue.proofs.Texts.{text-in-bytes, text-is-name}
 use Rattle.queue.proofs.After.{stored-live, name-held}
 use Rattle.queue.proofs.Below.{base-facts, answer-below, state-below, apt-below}
+
+accepted-then : (s : Mapped) (i : Input) → maps.answerIn s i ≡ 0
+    → maps.stateAfter s i ≡ maps.enact (maps.rowIn s i .effect) (newMap (i .number) (i .codes)) s
+unfolding maps.stateAfter
+accepted-then s i e = rw e
 
 -- ── OutStart: row 11 ──
 module _ (s : Mapped) (port : ℕ) (h : maps-sound.sound s ≡ true) (a : eqb (maps.answerIn s (ReserveAtPort port)) 0 ≡ true) where
@@ -250,7 +257,7 @@ module _ (s : Mapped) (port : ℕ) (n : Name) (h : maps-sound.sound s ≡ true) 
   unfolding see
   at-port = refl
 
-  hands-out : maps.rowIn (maps.stateAfter s ends) comes .effect ≡ handsOut (s .base) p n
+  pub hands-out : maps.rowIn (maps.stateAfter s ends) comes .effect ≡ handsOut (s .base) p n
   hands-out = second-effect ∙ rw (count-then, at-port, name-then, here-then, stands-then, found-then)
 
   -- both together are the one effect
@@ -259,3 +266,22 @@ module _ (s : Mapped) (port : ℕ) (n : Name) (h : maps-sound.sound s ≡ true) 
   together =
       state-below (maps.stateAfter s ends) comes (maps-runs.sound-after s ends h) (eq-eqb _ 0 second-zero)
       ∙ rw (hands-out, mid-is, set-set (s .base .ports) (spotOf p) left (handedOut n left))
+
+  -- no record goes and none is made, and so the maps stay as they are
+  still : (k : ℕ) (map : List ℕ) → length (s .base .carriers) ≤ k → followed k false map (s .maps) ≡ s .maps
+  unfolding followed
+  still k map b = let e = maps-runs.sound-parts s h .many in without-out (s .maps) k (omega arith)
+
+  first-maps : maps.stateAfter s ends .maps ≡ s .maps
+  unfolding maps.stateAfter
+  first-maps = rw (first-zero, first-effect) (still (length (s .base .carriers)) _ (omega arith))
+
+  abbrev second : Effect
+  second = maps.rowIn (maps.stateAfter s ends) comes .effect
+
+  then-maps : maps.stateAfter (maps.stateAfter s ends) comes .maps
+      ≡ followed (second .goes) (second .made) (newMap 7 []) (maps.stateAfter s ends .maps)
+  then-maps = ap (λ (m : Mapped). m .maps) (accepted-then (maps.stateAfter s ends) comes second-zero)
+
+  pub maps-still : maps.stateAfter (maps.stateAfter s ends) comes .maps ≡ s .maps
+  maps-still = then-maps ∙ rw (hands-out, first-maps) (still (length (s .base .carriers)) _ (omega arith))

@@ -1,9 +1,9 @@
--- What a row gives that is answered below and leaves the queue as it is: what is given below, beside the queue.
+-- What a row gives that stands for one input below: what is given there, beside the queue.
 use Prim.Native.Nat.{ℕ, _≤_}
 use native.Mathlib.Omega.{arith}
 use mathlib.Core.Path.{_≡_, refl, ap, sym, _∙_}
 use mathlib.Core.Bool.{Bool, true, false, _&&_}
-use mathlib.Core.List.{List, []}
+use mathlib.Core.List.{List, [], _∷_}
 use lib.ListN.{length, take, drop}
 use lib.Seq.{length-take-le, take-all}
 use lib.Dec.{eqb, leb}
@@ -24,7 +24,7 @@ use Rattle.queue.specs.Requests.{noRequest}
 use Rattle.queue.specs.State.{Queued, QueuedTool, stateOf, inTool}
 use Rattle.queue.specs.Sound.{zeroRequest, soundTool}
 use Rattle.queue.specs.Rows.{rowOf, passedOn}
-use Rattle.queue.specs.Outcome.{rowIn, answersIn, answerIn, stateAfter, goesIn, madeIn, Given, givenIn}
+use Rattle.queue.specs.Outcome.{rowIn, answersIn, answerIn, stateAfter, goesIn, madeIn, beside, givenIn}
 use Rattle.queue.proofs.Walk.{Plain}
 
 -- a request that passes the test for zero is none
@@ -63,38 +63,36 @@ module _ (t : QueuedTool) (h : soundTool t ≡ true) (long : length (t .queue) �
   pub waiting-held : length (take 16 used) ≡ t .waiting
   waiting-held = let b = few-waiting in let e = used-long in ap length (take-all 16 used (omega arith)) ∙ used-long
 
-  -- ── Beside the queue ──
-  abbrev pub beside : maps.Given → Given
-  beside g = record {
-    tool = record { mapped = g .tool; waiting = t .waiting; queue = t .queue };
-    answer = g .answer;
-    reports = g .reports;
-    goes = g .goes;
-    made = g .made;
-  }
+  abbrev s : Queued
+  s = stateOf t
 
-  module _ (i : Input) (gs : List Ground) (row : rowIn (stateOf t) i ≡ passedOn gs used i) (clear : lowest gs ≡ 0) where
-    abbrev s : Queued
-    s = stateOf t
-
-    answer-is : answerIn s i ≡ maps.answerIn (s .mapped) i
+  -- ── A row that stands for one input below ──
+  module _ (i j : Input) (gs : List Ground) (q : List Request)
+      (row : rowIn (stateOf t) i ≡ record { grounds = gs; stands = j ∷ []; queue = q }) (clear : lowest gs ≡ 0) where
+    answer-is : answerIn s i ≡ maps.answerIn (s .mapped) j
     unfolding answerIn answersIn lower maps-runs.reached
     answer-is = rw (row, clear)
 
-    when-accepted : maps.answerIn (s .mapped) i ≡ 0 → beside (maps.givenIn (t .mapped) i) ≡ givenIn t i
+    -- accepted there, with the queue that follows
+    pub taken-given : maps.answerIn (s .mapped) j ≡ 0
+        → beside (length (take 16 q)) (fill 16 noRequest q) (maps.givenIn (t .mapped) j) ≡ givenIn t i
     unfolding givenIn maps.givenIn stateAfter inTool goesIn madeIn maps-runs.reached
-    when-accepted e = rw (answer-is, e, row, waiting-held, queue-held)
+    taken-given e = rw (answer-is, e, row)
 
-    when-refused : eqb (maps.answerIn (s .mapped) i) 0 ≡ false → beside (maps.givenIn (t .mapped) i) ≡ givenIn t i
+    -- refused there
+    pub refused-given : eqb (maps.answerIn (s .mapped) j) 0 ≡ false
+        → beside (t .waiting) (t .queue) (maps.givenIn (t .mapped) j) ≡ givenIn t i
     unfolding givenIn maps.givenIn
-    when-refused e = rw (answer-is, e)
+    refused-given e = rw (answer-is, e)
 
-    pub passed-given : beside (maps.givenIn (t .mapped) i) ≡ givenIn t i
+  -- the queue as it is
+  module _ (i : Input) (gs : List Ground) (row : rowIn (stateOf t) i ≡ passedOn gs used i) (clear : lowest gs ≡ 0) where
+    pub passed-given : beside (t .waiting) (t .queue) (maps.givenIn (t .mapped) i) ≡ givenIn t i
     passed-given = go (eqb (maps.answerIn (s .mapped) i) 0) refl
       where
-        go : (w : Bool) → eqb (maps.answerIn (s .mapped) i) 0 ≡ w → beside (maps.givenIn (t .mapped) i) ≡ givenIn t i
-        go true e = when-accepted (eqb-true _ 0 e)
-        go false e = when-refused e
+        go : (w : Bool) → eqb (maps.answerIn (s .mapped) i) 0 ≡ w → beside (t .waiting) (t .queue) (maps.givenIn (t .mapped) i) ≡ givenIn t i
+        go true e = rw (waiting-held, queue-held) at (taken-given i i gs used row clear (eqb-true _ 0 e))
+        go false e = refused-given i i gs used row clear e
 
   -- a row that the request leaves as it is
   module _ (i : Input) (p : Plain (i .number)) where
@@ -113,6 +111,6 @@ module _ (t : QueuedTool) (h : soundTool t ≡ true) (long : length (t .queue) �
           ne-eqb (i .number) 30 (p .notCancelAll),
         )
 
-    pub plain-given : beside (maps.givenIn (t .mapped) i) ≡ givenIn t i
+    pub plain-given : beside (t .waiting) (t .queue) (maps.givenIn (t .mapped) i) ≡ givenIn t i
     unfolding lowest
     plain-given = passed-given i [] plain-row refl

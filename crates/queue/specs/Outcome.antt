@@ -11,6 +11,7 @@ use Rattle.rules.specs.Reports.{listed, noReports, differences}
 use Rattle.maps.specs.State.{Mapped}
 use Rattle.maps.specs.Outcome as maps
 use Rattle.maps.specs.Projection as maps-runs
+use Rattle.queue.specs.declared.request.Request.{Request}
 use Rattle.queue.specs.State.{Queued, baseOf, QueuedTool, stateOf, inTool}
 use Rattle.queue.specs.Rows.{Row, rowOf}
 
@@ -62,6 +63,16 @@ accepted before after stands = record {
   reports = listed (differences (baseOf before) (baseOf after));
   goes = goesIn (before .mapped) stands;
   made = madeIn (before .mapped) stands;
+}
+
+-- what is given below, beside a queue: so many requests are used of a table
+abbrev pub beside : ℕ → List Request → maps.Given → Given
+beside waiting queue g = record {
+  tool = record { mapped = g .tool; waiting = waiting; queue = queue };
+  answer = g .answer;
+  reports = g .reports;
+  goes = g .goes;
+  made = g .made;
 }
 
 -- an input to a tool that is known to be sound
