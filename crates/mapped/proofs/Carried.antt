@@ -42,7 +42,7 @@ use Rattle.mapped.specs.Bytes.{mapsFrom, codesAt}
 use Rattle.mapped.proofs.InBytes.{maps-long, maps-held, map-held}
 
 -- the reports of an effect that is fit for them
-reports-are : (t : Tool) → base-sound.soundTool t ≡ true → Held t → (e : Effect) → Apt (base.stateOf t) e
+pub reports-are : (t : Tool) → base-sound.soundTool t ≡ true → Held t → (e : Effect) → Apt (base.stateOf t) e
     → noteAll noReports (toldBy t e) ≡ listed (differences (base.stateOf t) (row.enact e (base.stateOf t)))
 reports-are t h k e a =
     let s = tool-sound t h in

@@ -40,7 +40,7 @@ pub struct Moved {
 fn blocks(m: &[[u8; TOOL_BYTES]]) {}
 
 // An effect's reports, and the effect.
-fn carry_out(m: &mut [u8; TOOL_BYTES], o: &mut [u8; REPORTS_BYTES], e: Effect)
+pub fn carry_out(m: &mut [u8; TOOL_BYTES], o: &mut [u8; REPORTS_BYTES], e: Effect)
     requires { ⌜ toolFrom (now m) .used ≤ 4 ⌝ }
     requires { ⌜ toolFrom (now m) .count ≤ 36 ⌝ }
     ensures { λ _. ⌜ toolFrom (now (m .exit)) ≡ applied (toolFrom (now (m .entry))) e ⌝ }

@@ -1,1 +1,4 @@
+pub mod Held
+pub mod Given
+pub mod Done
 pub mod Seven

@@ -52,7 +52,7 @@ use Rattle.queue.proofs.After.{name-held}
 use Rattle.queue.proofs.Lines.{some-stands}
 use Rattle.queue.proofs.Outs.{handsOut}
 use Rattle.queue.proofs.SoundRuns.{sound-parts, own-zero, below-zero, last-zero, cleared}
-use Rattle.queue.proofs.Ended.{row-done, base-then, out-apt, held}
+use Rattle.queue.proofs.Ended.{under-way-there, row-done, base-then, out-apt, held}
 use Rattle.queue.proofs.Walk.{walk}
 
 -- a report of a port
@@ -90,8 +90,19 @@ module _ (s : State) (h : base-sound.sound s ≡ true) where
     none = λ _ _. refl;
   }
 
-  none-reported : length (differences s s) ≤ 7
-  none-reported = rw nothing-is at (few-reports nothing nothing-apt (omega arith))
+  nobody-then : recordOf s (length (s .carriers)) ≡ noCarrier
+  unfolding recordOf
+  nobody-then = List·getD-eq-default (s .carriers) noCarrier (omega arith)
+
+  untouched : touched noPort noCarrier noCarrier nothing ≡ []
+  unfolding touched portTouched recordTouched reportIf tieNumber
+  untouched = rw (name-same noName noName refl)
+
+  -- a state doesn't differ from itself
+  pub no-difference : differences s s ≡ []
+  no-difference =
+      rw nothing-is at (differences-touched s nothing (few-ports s h) (distinct s h) nothing-apt)
+      ∙ rw (none-zero s (facts s h), nobody-then) untouched
 
 -- ── OutDone ──
 -- what its effect touches, of a port x that is kept free and a carrier w
@@ -132,11 +143,8 @@ module _ (s : Queued) (i : Input) (h : sound s ≡ true) (z : i .number ≡ 28) 
   some = let gs = outDone q x i .grounds in clear gs refl (cleared gs refl own) .1 .0
 
   under-way : isUnderWay (ending .name) (narrow (i .port)) q ≡ true
-  unfolding isUnderWay see
-  under-way =
-      let b = some-stands (startedTo (x .port)) noRequest q some in
-      any-here (λ r. isOf (ending .name) r && startedTo (narrow (i .port)) r) q (startedStands (x .port) q) noRequest b
-      (and-i (name-same (ending .name) (ending .name) refl) (where-holds (startedTo (x .port)) q noRequest b))
+  unfolding see
+  under-way = under-way-there (narrow (i .port)) q some
 
   base-is-sound : base-sound.sound (baseOf s) ≡ true
   base-is-sound = maps-proofs.sound-parts (s .mapped) (sound-parts s h .mapped) .base
@@ -200,7 +208,7 @@ module _ (s : Queued) (i : Input) (h : sound s ≡ true) (a : answerIn s i ≡ 0
 
   none-few : length (differences (baseOf s) (maps-runs.reached (s .mapped) [] .base)) ≤ 7
   unfolding maps-runs.reached
-  none-few = none-reported (baseOf s) sound-base
+  none-few = rw (no-difference (baseOf s) sound-base) (omega arith)
 
   out-few : i .number ≡ 28 → Few (outDone (s .queue) (see (baseOf s) i) i)
   out-few z _ =
