@@ -4,9 +4,9 @@ ghost use Rattle.image.specs.Image.{reportsFrom};
 ghost use Rattle.tool.specs.Whole.{wholeIn};
 ghost use Rattle.bridge.specs.Bridge.{bridged, itemsIn};
 use door::door::door_step;
+use follow::blocks::BLOCKS;
 use image::layout::*;
 use image::report::no_reports;
-use mapped::layout::*;
 use secs::request::request_in;
 
 pub fn bridge_step(

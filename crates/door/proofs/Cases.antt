@@ -1,6 +1,6 @@
 -- The runs show what they are there for.
 use mathlib.Core.Path.{_≡_, refl}
-use mathlib.Core.Bool.{true}
+use mathlib.Core.Bool.{true, _&&_}
 use Rattle.lists.specs.Lists.{every, any, howMany, whereIs, without, fill, sameList}
 use Rattle.records.specs.Names.{isName, inBytes, sameName}
 use Rattle.records.specs.Maps.{isMap, inMap}
@@ -14,17 +14,21 @@ use Rattle.rules.specs.Named.{nameMissing}
 use Rattle.follow.specs.Follow.{followed}
 use Rattle.names.specs.Check.{remains, refused, shortened}
 use Rattle.maps.specs.Expected.{isExpected, equals, carries, newMap}
-use Rattle.maps.specs.Rows.{codesIn, rowOf}
-use Rattle.maps.specs.Outcome.{answerIn, stateAfter}
-use Rattle.maps.specs.Judged.{smooth, after}
+use Rattle.maps.specs.Rows as maps-rows
+use Rattle.maps.specs.Outcome as maps
+use Rattle.maps.specs.Projection as maps-runs
+use Rattle.queue.specs.Requests.{carrierOf, mayLeave, only}
+use Rattle.queue.specs.Rows.{untilZero, rowOf}
+use Rattle.queue.specs.Outcome.{answersIn, answerIn, stateAfter}
+use Rattle.queue.specs.Cases.{smooth, after}
 use Rattle.door.specs.Door.{mayPad, mayPadRun}
-use Rattle.door.specs.Cases.{holds, cases, padsHold, paddings}
+use Rattle.door.specs.Cases.{holds, cases, queueCases, padsHold, paddings}
 
-pub all-cases : every holds cases ≡ true
+pub all-cases : (every (holds 0) cases && every (holds 1) queueCases) ≡ true
 unfolding every any howMany whereIs without fill sameList isName inBytes sameName isMap inMap portOf recordOf narrow nameStands tieStands
     howManyExpected spotTaken someOpen see lower lowest enact placed unknownPod foundOrNew meant meantPort meantStands onePair elsewhere
-    matching displaced base.rowOf followed remains refused shortened isExpected equals carries newMap codesIn rowOf answerIn stateAfter
-    smooth after holds
+    matching displaced base.rowOf followed remains refused shortened isExpected equals carries newMap maps-rows.codesIn maps-rows.rowOf
+    maps.answerIn maps.stateAfter maps-runs.reached carrierOf mayLeave only untilZero rowOf answersIn answerIn stateAfter smooth after holds
 all-cases = refl
 
 -- and some runs may be padded, others not

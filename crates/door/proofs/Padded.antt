@@ -10,11 +10,12 @@ use borrow.Author.Tests.{eqb-true, eqb-false, leb-true}
 use Rattle.lists.proofs.Bools.{and-l, and-r, not-true}
 use Rattle.records.specs.Names.{isName}
 use Rattle.rules.specs.Seen.{Input}
-use Rattle.rules.specs.Named.{takesName, nameMissing, called}
+use Rattle.rules.specs.Named.{nameMissing, called}
 use Rattle.names.specs.Check as check
 use Rattle.names.specs.Check.{shortened}
 use Rattle.names.proofs.Given.{seen-name, refused-padded, refused-stays, shortened-padded}
-use Rattle.maps.proofs.Named.{given-ignores, turned-away}
+use Rattle.queue.specs.Named.{takesName}
+use Rattle.queue.proofs.Named.{given-ignores, turned-away}
 use Rattle.tool.specs.Whole as tool
 use Rattle.tool.specs.Whole.{Whole, soundWhole, around, refused}
 use Rattle.tool.proofs.Tested.{when-sound, when-not}
@@ -27,7 +28,7 @@ module _ (t : Whole) (i : Input) where
   whole-ignores name f = go (soundWhole t) refl
     where
       go : (w : Bool) → soundWhole t ≡ w → tool.outcome t (called name i) ≡ tool.outcome t i
-      go true h = sym (when-sound t (called name i) h) ∙ ap (around t) (given-ignores i (t .mapped) name f) ∙ when-sound t i h
+      go true h = sym (when-sound t (called name i) h) ∙ ap (around t) (given-ignores i name f (t .layered)) ∙ when-sound t i h
       go false h = sym (when-not t (called name i) h) ∙ when-not t i h
 
   -- a row that takes a name refuses what is none with 1
@@ -35,7 +36,7 @@ module _ (t : Whole) (i : Input) where
   whole-refuses n k m = go (soundWhole t) refl
     where
       go : (w : Bool) → soundWhole t ≡ w → tool.outcome t i ≡ refused t 1
-      go true h = sym (when-sound t i h) ∙ ap (around t) (turned-away i n k m (t .mapped))
+      go true h = sym (when-sound t i h) ∙ ap (around t) (turned-away i n k m (t .layered))
       go false h = sym (when-not t i h)
 
 -- ── The door ──

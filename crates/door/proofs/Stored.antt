@@ -11,11 +11,12 @@ use Rattle.lists.proofs.Bools.{and-l, and-r}
 use Rattle.records.specs.Names.{graphic, headOr0, zeroEnded, holdsName}
 use Rattle.rules.specs.State.{recordOf}
 use Rattle.rules.specs.Promise.{Live}
-use Rattle.rules.proofs.SoundParts.{facts}
 use Rattle.names.specs.Check.{isBlank}
-use Rattle.maps.specs.State.{stateOf}
-use Rattle.maps.specs.Sound.{soundTool, sound}
-use Rattle.maps.proofs.SoundTools.{tool-sound}
+use Rattle.queue.specs.State.{baseOf, stateOf}
+use Rattle.queue.specs.Sound.{soundTool}
+use Rattle.queue.proofs.Below.{base-facts}
+use Rattle.queue.proofs.SoundRuns.{sound-parts}
+use Rattle.queue.proofs.SoundTools.{tool-sound}
 use Rattle.tool.specs.Whole.{Whole, soundWhole}
 
 not-blank : (b z : ℕ) → ((eqb b 0 && eqb z 0) || graphic b) ≡ true → isBlank b ≡ false
@@ -30,9 +31,10 @@ unfolding any zeroEnded
 none-blank [] h = refl
 none-blank (b ∷ l) h = rw (not-blank b (headOr0 l) (and-l _ _ h)) (none-blank l (and-r ((eqb b 0 && eqb (headOr0 l) 0) || graphic b) _ h))
 
-pub stored-plain : (t : Whole) → soundWhole t ≡ true → (k : ℕ) → Live (stateOf (t .mapped) .base) k
-    → any isBlank (recordOf (stateOf (t .mapped) .base) k .name .bytes) ≡ false
-unfolding soundWhole sound holdsName
+pub stored-plain : (t : Whole) → soundWhole t ≡ true → (k : ℕ) → Live (baseOf (stateOf (t .layered))) k
+    → any isBlank (recordOf (baseOf (stateOf (t .layered))) k .name .bytes) ≡ false
+unfolding soundWhole holdsName
 stored-plain t h k l =
-    let s = tool-sound (t .mapped) (and-l (soundTool (t .mapped)) _ h) in
-    none-blank _ (and-l _ _ (facts (stateOf (t .mapped) .base) (and-l _ _ s) .records k l .named))
+    let s = stateOf (t .layered) in
+    let p = sound-parts s (tool-sound (t .layered) (and-l (soundTool (t .layered)) _ h)) in
+    none-blank _ (and-l _ _ (base-facts (s .mapped) (p .mapped) .records k l .named))

@@ -6,10 +6,11 @@ use mathlib.Core.List.{List, [], _∷_, _++_, map}
 use lib.ListN.{replicate}
 use lib.Dec.{eqb}
 use Rattle.rules.specs.Seen.{Input, inputOf}
-use Rattle.rules.specs.Inputs.{Bind, CancelBind, CarrierNotification, CancelCarrierNotification, LoadStart, LoadDone, IdRead, Open}
-use Rattle.maps.specs.State.{start}
-use Rattle.maps.specs.Outcome.{answerIn}
-use Rattle.maps.specs.Judged.{smooth, after}
+use Rattle.rules.specs.Inputs.{Bind, CancelBind, CarrierNotification, CancelCarrierNotification, CarrierOut, LoadStart, LoadDone, IdRead}
+use Rattle.rules.specs.Inputs.{MoveIn, Open}
+use Rattle.queue.specs.State.{start}
+use Rattle.queue.specs.Outcome.{answerIn}
+use Rattle.queue.specs.Cases.{CancelCarrierOut, smooth, after}
 use Rattle.door.specs.Door.{shown, mayPadRun}
 
 -- A run of inputs that are accepted, and one more with its answer.
@@ -21,10 +22,10 @@ pub record Case : Type 0 where
 abbrev case : List Input → Input → ℕ → Case
 case before input answer = record { before = before; input = input; answer = answer }
 
--- one port, no buffer
-unfoldable pub holds : Case → Bool
-holds c = smooth (start 1 0) (map shown (c .before))
-    && eqb (answerIn (after (start 1 0) (map shown (c .before))) (shown (c .input))) (c .answer)
+-- one port, and so many places
+unfoldable pub holds : ℕ → Case → Bool
+holds places c = smooth (start 1 places) (map shown (c .before))
+    && eqb (answerIn (after (start 1 places) (map shown (c .before))) (shown (c .input))) (c .answer)
 
 abbrev AB : List ℕ
 AB = 0x41 ∷ 0x42 ∷ []
@@ -58,6 +59,23 @@ cases =
     -- a row that takes no name ignores it, however bad
     ∷ case [] (inputOf 13 1 0 (blanks 1 ++ AB) []) 0
     ∷ case [] (inputOf 13 1 0 (replicate 40 0) []) 0
+    ∷ []
+
+-- with a place in the buffer: AB is moved there and queued
+abbrev queued : List ℕ → List Input
+queued name = Bind 1 AB ∷ arrives AB ++ MoveIn 1 1 ∷ CarrierOut name 1 ∷ []
+
+abbrev pub queueCases : List Case
+queueCases =
+    case (queued (AB ++ blanks 3)) (CancelCarrierOut AB) 0
+    ∷ case (queued AB) (CancelCarrierOut (AB ++ blanks 30)) 0
+    ∷ case (queued (AB ++ blanks 3)) (CarrierOut (AB ++ blanks 1) 1) 10
+    ∷ case (queued AB) (CancelCarrierOut (AB ++ blanks 31)) 1
+    ∷ case (queued AB) (CancelCarrierOut (blanks 1 ++ AB)) 1
+    -- 27, 28 and 30 ignore the name, however bad
+    ∷ case (queued AB) (inputOf 27 1 0 (replicate 40 0) []) 0
+    ∷ case (queued AB) (inputOf 28 1 0 (replicate 40 0) []) 5
+    ∷ case (queued AB) (inputOf 30 0 0 (replicate 40 0) []) 0
     ∷ []
 
 -- ── What may be padded: any name within 32 bytes, a bad one too, but none that is missing ──

@@ -4,8 +4,8 @@ ghost use Rattle.rules.specs.Seen.{inputOf};
 ghost use Rattle.image.specs.Image.{reportsFrom};
 ghost use Rattle.tool.specs.Whole.{wholeIn};
 ghost use Rattle.door.specs.Door.{outcome};
+use follow::blocks::BLOCKS;
 use image::layout::*;
-use mapped::layout::*;
 use names::check::shortened_length;
 use tool::whole::whole_step;
 

@@ -16,12 +16,12 @@ use Rattle.rules.specs.State.{recordOf}
 use Rattle.rules.specs.Seen.{Input}
 use Rattle.rules.specs.History.{Event, history}
 use Rattle.rules.specs.Promise.{Live, Orderly}
-use Rattle.maps.specs.State.{Mapped, MappedTool, stateOf, start}
-use Rattle.maps.specs.Outcome.{rowIn, answerIn, stateAfter, refused, accepted, givenIn}
-use Rattle.maps.specs.Projection.{reached}
-use Rattle.maps.specs.History.{events}
+use Rattle.queue.specs.State.{Queued, baseOf, QueuedTool, stateOf, start}
+use Rattle.queue.specs.Outcome.{rowIn, answerIn, stateAfter, refused, accepted, givenIn}
+use Rattle.queue.specs.Projection.{reached}
+use Rattle.queue.specs.Promise.{events}
 use Rattle.maps.specs.Promise.{Earned}
-use Rattle.maps.proofs.Promised.{promised}
+use Rattle.queue.proofs.Promised.{promised}
 use Rattle.tool.specs.Whole as tool
 use Rattle.tool.specs.Whole.{Whole, wholeIn, soundWhole, setUp, reachedWhole}
 use Rattle.tool.proofs.Tested.{when-sound}
@@ -62,19 +62,19 @@ module _ (P B : ℕ) where
       go false z = absurd (omega arith)
 
 -- a sound tool answers as its state does
-given-answer : (t : MappedTool) (i : Input) → givenIn t i .answer ≡ answerIn (stateOf t) i
+given-answer : (t : QueuedTool) (i : Input) → givenIn t i .answer ≡ answerIn (stateOf t) i
 unfolding givenIn
 given-answer t i = go (eqb (answerIn (stateOf t) i) 0) refl
   where
     go : (w : Bool) → eqb (answerIn (stateOf t) i) 0 ≡ w
-        → cond w (accepted (stateOf t) (stateAfter (stateOf t) i) (rowIn (stateOf t) i .effect))
+        → cond w (accepted (stateOf t) (stateAfter (stateOf t) i) (rowIn (stateOf t) i .stands))
         (refused t (answerIn (stateOf t) i)) .answer
         ≡ answerIn (stateOf t) i
     go true e = sym (eqb-true _ 0 e)
     go false e = refl
 
-answer-is : (t : Whole) (i : Input) → soundWhole t ≡ true → tool.outcome t i .answer ≡ answerIn (stateOf (t .mapped)) i
-answer-is t i h = ap (λ o. o .answer) (sym (when-sound t i h)) ∙ given-answer (t .mapped) i
+answer-is : (t : Whole) (i : Input) → soundWhole t ≡ true → tool.outcome t i .answer ≡ answerIn (stateOf (t .layered)) i
+answer-is t i h = ap (λ o. o .answer) (sym (when-sound t i h)) ∙ given-answer (t .layered) i
 
 -- as the rows saw them
 unfoldable inputs : List Call → List Input
@@ -128,8 +128,8 @@ module _ (before : List (List ℕ)) (answer : ℕ) (after : List (List ℕ)) (re
       go true q = no-input m room items left length k q ∙ e
       go false q = after-text m items (as-text m room items left length k q) earlier t e
 
-  abbrev happens : Input → Mapped → ℕ → Event
-  happens i s a = record { before = s .base; input = i; answer = a }
+  abbrev happens : Input → Queued → ℕ → Event
+  happens i s a = record { before = baseOf s; input = i; answer = a }
 
   -- an input that was answered as the tool answers is the run's next event
   event-after : (i : Input) → answer ≡ tool.outcome (wholeIn before) i .answer → (P B : ℕ) (earlier : List Input)
@@ -187,7 +187,7 @@ module _ (P B : ℕ) where
     sound-is = ap soundWhole (tool-is calls bytes l) ∙ tool-sound P B (set-up calls bytes l) (inputs calls)
 
     state-is : stateIn bytes ≡ reached (start P B) (inputs calls)
-    state-is = ap (λ t. stateOf (t .mapped)) (tool-is calls bytes l) ∙ tool-holds P B (set-up calls bytes l) (inputs calls)
+    state-is = ap (λ t. stateOf (t .layered)) (tool-is calls bytes l) ∙ tool-holds P B (set-up calls bytes l) (inputs calls)
 
   -- what happened in the calls is what happens by the definitions
   events-are : (calls : List Call) (bytes : List (List ℕ)) → Left P B calls bytes → happened calls ≡ events (start P B) (inputs calls)
@@ -199,8 +199,8 @@ module _ (P B : ℕ) where
       (state-is earlier (c .before) (l .0)) (c .sent) (l .1)
 
 -- each carrier of a state has behind it what happened
-abbrev Backed : Mapped → List Event → Type 0
-Backed s es = (k : ℕ) → Live (s .base) k → Earned (history (recordOf (s .base) k .name) es) (recordOf (s .base) k)
+abbrev Backed : Queued → List Event → Type 0
+Backed s es = (k : ℕ) → Live (baseOf s) k → Earned (history (recordOf (baseOf s) k .name) es) (recordOf (baseOf s) k)
 
 pub kept : (P B : ℕ) (calls : List Call) (bytes : List (List ℕ)) → Left P B calls bytes → Kept P B calls bytes
 kept P B calls bytes l =
@@ -211,8 +211,8 @@ kept P B calls bytes l =
     let s = sym (state-is P B calls bytes l) in
     record {
       sound = sound-is P B calls bytes l;
-      orderly = subst (λ s. Orderly (s .base)) s (p .orderly);
-      few = subst (λ s. length (s .base .carriers) ≤ P + B + 16) s (p .few);
+      orderly = subst (λ s. Orderly (baseOf s)) s (p .orderly);
+      few = subst (λ s. length (baseOf s .carriers) ≤ P + B + 16) s (p .few);
       earned = subst (λ s. Backed s (happened calls)) s
           (subst (Backed (reached (start P B) (inputs calls))) (sym (events-are P B calls bytes l)) (p .earned));
     }

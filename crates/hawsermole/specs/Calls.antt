@@ -11,7 +11,7 @@ use Rattle.rules.specs.History.{Event, history}
 use Rattle.rules.specs.Promise.{Live, Orderly}
 use Rattle.image.specs.Image.{byteAt, toolFrom, reportsFrom}
 use Rattle.logs.specs.Judging.{Judgement}
-use Rattle.maps.specs.State.{Mapped, stateOf}
+use Rattle.queue.specs.State.{Queued, baseOf, stateOf}
 use Rattle.maps.specs.Promise.{Earned}
 use Rattle.tool.specs.Whole.{wholeIn, soundWhole, setUp}
 use Rattle.door.specs.Door.{shown, outcome}
@@ -86,8 +86,8 @@ Left P B [] bytes = SetUpCall P B 0 bytes
 Left P B (c ∷ earlier) bytes = Left P B earlier (c .before) × Made (c .before) (c .sent) (c .answer) bytes (c .reports)
 
 -- the state that bytes hold
-abbrev pub stateIn : List (List ℕ) → Mapped
-stateIn bytes = stateOf (wholeIn bytes .mapped)
+abbrev pub stateIn : List (List ℕ) → Queued
+stateIn bytes = stateOf (wholeIn bytes .layered)
 
 -- The input that rows saw: a message that the reader refuses brings none.
 unfoldable pub read : List ℕ → List Input
@@ -102,7 +102,7 @@ taken (lent message room items left length) answer = cond (eqb answer 14) [] (re
 -- What happened in a call: the answer is the one that the call gave.
 abbrev pub eventsOf : Call → List Event
 eventsOf c =
-    map (λ i. record { before = stateIn (c .before) .base; input = i; answer = c .answer }) (taken (c .sent) (c .answer))
+    map (λ i. record { before = baseOf (stateIn (c .before)); input = i; answer = c .answer }) (taken (c .sent) (c .answer))
 
 unfoldable pub happened : List Call → List Event
 happened [] = []
@@ -112,10 +112,10 @@ happened (c ∷ earlier) = eventsOf c ++ happened earlier
 -- and each of its carriers has behind it what the calls' own answers show.
 pub record Kept (P B : ℕ) (calls : List Call) (bytes : List (List ℕ)) : Type 0 where
   pub sound : soundWhole (wholeIn bytes) ≡ true
-  pub orderly : Orderly (stateIn bytes .base)
-  pub few : length (stateIn bytes .base .carriers) ≤ P + B + 16
-  pub earned : (k : ℕ) → Live (stateIn bytes .base) k
-      → Earned (history (recordOf (stateIn bytes .base) k .name) (happened calls)) (recordOf (stateIn bytes .base) k)
+  pub orderly : Orderly (baseOf (stateIn bytes))
+  pub few : length (baseOf (stateIn bytes) .carriers) ≤ P + B + 16
+  pub earned : (k : ℕ) → Live (baseOf (stateIn bytes)) k
+      → Earned (history (recordOf (baseOf (stateIn bytes)) k .name) (happened calls)) (recordOf (baseOf (stateIn bytes)) k)
 
 -- the first n bytes are the same
 abbrev pub SameBytes : ℕ → List ℕ → List ℕ → Type 0

@@ -25,12 +25,12 @@ use waiting::found::before_end;
 use waiting::found::stopped_at;
 use waiting::found::waits_for_host;
 
-// 0x00MMmmpp: 0.8.0, HM_VERSION of the header that belongs to it.
+// 0x00MMmmpp: 0.9.0, HM_VERSION of the header that belongs to it.
 #[no_mangle]
 pub extern "C" fn hm_version() -> u32
-    ensures { λ r. ⌜ r ≡ 2048 ⌝ }
+    ensures { λ r. ⌜ r ≡ 2304 ⌝ }
 {
-    0x000800
+    0x000900
 }
 
 #[no_mangle]

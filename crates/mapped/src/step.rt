@@ -17,6 +17,7 @@ use crate::amended::amended_effect;
 use crate::amended::new_map;
 use crate::kept::codes_at;
 use crate::layout::*;
+use follow::blocks::BLOCKS;
 use follow::table::follow;
 use image::layout::*;
 use image::read::port_at;

@@ -1,4 +1,4 @@
--- A block of zeros: no map, and nothing unused.
+-- A block of zeros: no map, no request, and nothing unused.
 use Prim.Native.Nat.{ℕ, _+_, _*_}
 use mathlib.Core.Path.{_≡_, _∙_}
 use mathlib.Core.List.{List}
@@ -10,6 +10,9 @@ use Rattle.follow.specs.Follow.{entriesFrom}
 use Rattle.maps.specs.State.{noMaps}
 use Rattle.maps.specs.Expected.{noMap}
 use Rattle.mapped.specs.Bytes.{mapsFrom}
+use Rattle.queue.specs.Requests.{noRequest}
+use Rattle.queue.specs.State.{noRequests}
+use Rattle.line.specs.Bytes.{requestStart, requestFrom, queueFrom}
 
 abbrev zeros : List ℕ
 zeros = replicate 1891 0
@@ -20,3 +23,10 @@ none-used o n = table-same n _ (λ i. 0) (λ i h. zero-at 1891 (o + i)) ∙ tabl
 pub no-maps : mapsFrom zeros ≡ noMaps
 unfolding entriesFrom
 no-maps = table-same 36 _ (λ k. noMap) (λ k h. none-used (0 + 25 * k) 25) ∙ table-const 36 noMap
+
+pub no-requests : queueFrom zeros ≡ noRequests
+unfolding queueFrom
+no-requests = table-same 16 _ (λ k. noRequest) (λ k h. none-at (requestStart k)) ∙ table-const 16 noRequest
+  where
+    none-at : (o : ℕ) → requestFrom zeros o ≡ noRequest
+    none-at o = rw (none-used o 16, zero-at 1891 (o + 16), zero-at 1891 (o + 17))

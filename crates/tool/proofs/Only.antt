@@ -6,14 +6,18 @@ use mathlib.Core.Bool.{Bool, true, false}
 use mathlib.Core.List.{List, [], _∷_}
 use lib.ListN.{length, getD}
 use lib.Seq.{ext-getD}
-use lib.Dec.{ltb}
-use borrow.Author.Tests.{ltb-true, ltb-false}
+use lib.Dec.{eqb, ltb}
+use borrow.Author.Tests.{eqb-true, eqb-false, ltb-true, ltb-false}
 use Rattle.image.specs.Image.{byteAt, bytesFrom}
 use Rattle.image.proofs.Table.{getD-table}
 use Rattle.image.proofs.Only.{each-byte, one-image}
 use Rattle.maps.specs.Expected.{noMap}
 use Rattle.mapped.specs.Bytes.{mapsFrom}
 use Rattle.mapped.proofs.InBytes.{map-is}
+use Rattle.queue.specs.declared.request.Request.{Request}
+use Rattle.queue.specs.Requests.{noRequest}
+use Rattle.line.specs.Bytes.{waitingIn, requestStart, requestFrom, queueFrom}
+use Rattle.line.proofs.Laid.{request-is}
 use Rattle.tool.specs.Whole.{wholeIn}
 
 -- a byte of a part that is the same in both
@@ -21,7 +25,21 @@ part-byte : (m n : List ℕ) (o w i : ℕ) → bytesFrom m o w ≡ bytesFrom n o
 part-byte m n o w i e h =
     sym (getD-table w (λ i. byteAt m (o + i)) i 0 h) ∙ ap (λ l. getD l i 0) e ∙ getD-table w (λ i. byteAt n (o + i)) i 0 h
 
-module _ (m n : List ℕ) (p : mapsFrom m ≡ mapsFrom n) (q : bytesFrom m 900 991 ≡ bytesFrom n 900 991) where
+-- a byte of a request
+request-byte : (m n : List ℕ) (o i : ℕ) → requestFrom m o ≡ requestFrom n o → i < 18 → byteAt m (o + i) ≡ byteAt n (o + i)
+request-byte m n o i e h = go (ltb i 16) refl (eqb i 16) refl
+  where
+    go : (b : Bool) → ltb i 16 ≡ b → (c : Bool) → eqb i 16 ≡ c → byteAt m (o + i) ≡ byteAt n (o + i)
+    go true l c d = part-byte m n o 16 i (ap (λ (r : Request). r .name .bytes) e) (ltb-true i 16 l)
+    go false l true d = rw (eqb-true i 16 d) (ap (λ (r : Request). r .port) e)
+    go false l false d =
+        let a = ltb-false i 16 l in
+        let b = eqb-false i 16 d in
+        let z : i ≡ 17 = omega (arith, b) in
+        rw z (ap (λ (r : Request). r .started) e)
+
+module _ (m n : List ℕ) (p : mapsFrom m ≡ mapsFrom n) (w : waitingIn m ≡ waitingIn n) (r : queueFrom m ≡ queueFrom n)
+    (q : bytesFrom m 1189 702 ≡ bytesFrom n 1189 702) where
   map-byte : (i : ℕ) → i < 900 → byteAt m i ≡ byteAt n i
   map-byte i h =
       let k = i / 25 in
@@ -31,17 +49,35 @@ module _ (m n : List ℕ) (p : mapsFrom m ≡ mapsFrom n) (q : bytesFrom m 900 9
       let e = sym (map-is m k b) ∙ ap (λ l. getD l k noMap) p ∙ map-is n k b in
       rw z at (part-byte m n (25 * k) 25 (i % 25) e r)
 
-  rest-byte : (i : ℕ) → 900 ≤ i → i < 1891 → byteAt m i ≡ byteAt n i
+  queue-byte : (i : ℕ) → 901 ≤ i → i < 1189 → byteAt m i ≡ byteAt n i
+  queue-byte i l h =
+      let j = i - 901 in
+      let k = j / 18 in
+      let z : requestStart k + j % 18 ≡ i = omega arith in
+      let b : k < 16 = omega arith in
+      let t : j % 18 < 18 = omega arith in
+      let e = sym (request-is m k b) ∙ ap (λ q. getD q k noRequest) r ∙ request-is n k b in
+      rw z at (request-byte m n (requestStart k) (j % 18) e t)
+
+  rest-byte : (i : ℕ) → 1189 ≤ i → i < 1891 → byteAt m i ≡ byteAt n i
   rest-byte i h l =
-      let z : 900 + (i - 900) ≡ i = omega arith in
-      rw z at (part-byte m n 900 991 (i - 900) q (omega arith))
+      let z : 1189 + (i - 1189) ≡ i = omega arith in
+      rw z at (part-byte m n 1189 702 (i - 1189) q (omega arith))
+
+  after-maps : (i : ℕ) → 900 ≤ i → i < 1891 → byteAt m i ≡ byteAt n i
+  after-maps i h l = go (ltb i 901) refl (ltb i 1189) refl
+    where
+      go : (b : Bool) → ltb i 901 ≡ b → (c : Bool) → ltb i 1189 ≡ c → byteAt m i ≡ byteAt n i
+      go true e c d = let a = ltb-true i 901 e in let z : i ≡ 900 = omega arith in rw z w
+      go false e true d = queue-byte i (ltb-false i 901 e) (ltb-true i 1189 d)
+      go false e false d = rest-byte i (ltb-false i 1189 d) l
 
   pub block-byte : (i : ℕ) → i < 1891 → byteAt m i ≡ byteAt n i
   block-byte i l = go (ltb i 900) refl
     where
       go : (b : Bool) → ltb i 900 ≡ b → byteAt m i ≡ byteAt n i
       go true e = map-byte i (ltb-true i 900 e)
-      go false e = rest-byte i (ltb-false i 900 e) l
+      go false e = after-maps i (ltb-false i 900 e) l
 
   one-block : length m ≡ 1891 → length n ≡ 1891 → m ≡ n
   one-block a b = ext-getD 0 m n (a ∙ sym b) (λ i h. block-byte i (omega arith))
@@ -49,11 +85,16 @@ module _ (m n : List ℕ) (p : mapsFrom m ≡ mapsFrom n) (q : bytesFrom m 900 9
 pub one-tool : (a b c d : List ℕ) → length a ≡ 1891 → length b ≡ 1891 → length c ≡ 1891 → length d ≡ 1891
     → wholeIn (a ∷ b ∷ []) ≡ wholeIn (c ∷ d ∷ []) → _≡_ {A = List (List ℕ)} (a ∷ b ∷ []) (c ∷ d ∷ [])
 one-tool a b c d p q r s e =
-    rw (one-image a c (ap (λ t. t .mapped .base) e) p r, one-block b d (ap (λ t. t .mapped .maps) e) (ap (λ t. t .unused) e) q s)
+    rw (
+      one-image a c (ap (λ t. t .layered .mapped .base) e) p r,
+      one-block b d (ap (λ t. t .layered .mapped .maps) e) (ap (λ t. t .layered .waiting) e) (ap (λ t. t .layered .queue) e)
+          (ap (λ t. t .unused) e) q s,
+    )
 
 -- the same in every byte, of any two that are read alike
 pub first-bytes : (a b : List (List ℕ)) → wholeIn a ≡ wholeIn b → (i : ℕ) → i < 1891 → byteAt (getD a 0 []) i ≡ byteAt (getD b 0 []) i
-first-bytes a b e = each-byte (getD a 0 []) (getD b 0 []) (ap (λ t. t .mapped .base) e)
+first-bytes a b e = each-byte (getD a 0 []) (getD b 0 []) (ap (λ t. t .layered .mapped .base) e)
 
 pub second-bytes : (a b : List (List ℕ)) → wholeIn a ≡ wholeIn b → (i : ℕ) → i < 1891 → byteAt (getD a 1 []) i ≡ byteAt (getD b 1 []) i
-second-bytes a b e = block-byte (getD a 1 []) (getD b 1 []) (ap (λ t. t .mapped .maps) e) (ap (λ t. t .unused) e)
+second-bytes a b e = block-byte (getD a 1 []) (getD b 1 []) (ap (λ t. t .layered .mapped .maps) e) (ap (λ t. t .layered .waiting) e)
+    (ap (λ t. t .layered .queue) e) (ap (λ t. t .unused) e)

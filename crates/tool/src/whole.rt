@@ -4,15 +4,17 @@ ghost use lib.ListN.{replicate};
 ghost use Rattle.rules.specs.Seen.{inputOf};
 ghost use Rattle.image.specs.Image.{reportsFrom};
 ghost use Rattle.tool.specs.Whole.{wholeIn, soundWhole, setUp, outcome};
+use crate::layout::*;
+use follow::blocks::BLOCKS;
 use image::layout::*;
 use image::read::count;
 use image::report::no_reports;
 use image::write::clear;
+use line::sound::sound_queue;
 use machine::setup::setup;
 use mapped::kept::sound_maps;
-use mapped::layout::*;
-use mapped::step::step_sound;
 use passes::bytes::zeros;
+use queued::step::queued_step;
 use records::choose::wide;
 use soundness::whole::sound;
 
@@ -23,7 +25,8 @@ pub fn whole_sound(m: &[[u8; TOOL_BYTES]; BLOCKS]) -> bool
     if sound(&m[0]) {
         let n = wide(count(&m[0]));
         let maps = sound_maps(&m[1], n);
-        maps & zeros(&m[1], UNUSED_START, UNUSED_BYTES)
+        let queue = sound_queue(m);
+        maps & queue & zeros(&m[1], UNUSED_START, UNUSED_BYTES)
     } else {
         false
     }
@@ -65,7 +68,7 @@ pub fn whole_step(
         (inputOf number port value (now (name .entry)) (now (codes .entry))) .answer ⌝ }
 {
     if whole_sound(m) {
-        let r = step_sound(m, o, number, port, value, name, codes);
+        let r = queued_step(m, o, number, port, value, name, codes);
         r.answer
     } else {
         no_reports(o);

@@ -6,9 +6,11 @@ use mathlib.Core.List.{[]}
 use lib.ListN.{length, getD, set, length-set}
 use lib.Seq.{getD-set-same, getD-set-other}
 use Rattle.image.specs.Image.{toolFrom, bytesFrom}
+use Rattle.machine.proofs.Fresh.{zero-at}
 use Rattle.mapped.specs.Bytes.{mapsFrom}
+use Rattle.line.specs.Bytes.{waitingIn, queueFrom}
 use Rattle.tool.proofs.Tested.{whole-made}
-use Rattle.tool.proofs.Blank.{none-used, no-maps}
+use Rattle.tool.proofs.Blank.{none-used, no-maps, no-requests}
 use Rattle.tool.proofs.whole.whole_setup.Statement.{statement}
 use Rattle.tool.proofs.whole.whole_setup.Tie as tie
 
@@ -25,7 +27,7 @@ returns c =
     let base : getD (set (set m 1 y) 0 w) 0 [] ≡ w = getD-set-same (set m 1 y) 0 w [] more in
     let z = there ∙ d .clear-block .ensures in (
       whole-made (set (set m 1 y) 0 w) (ap toolFrom base ∙ c .setup .ensures .0) (ap mapsFrom z ∙ no-maps)
-          (ap (λ b. bytesFrom b 900 991) z ∙ none-used 900 991),
+          (ap waitingIn z ∙ zero-at 1891 900) (ap queueFrom z ∙ no-requests) (ap (λ b. bytesFrom b 1189 702) z ∙ none-used 1189 702),
       c .setup .ensures .1,
     )
 
