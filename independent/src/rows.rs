@@ -19,6 +19,9 @@ pub(crate) enum Refusal {
     TooManyExpected = 6,
     NotVerified = 7,
     Occupied = 8,
+    // The two that P5 adds; no row of document 01 gives them.
+    QueueFull = 9,
+    AlreadyQueued = 10,
 }
 
 use Refusal::*;
@@ -263,12 +266,7 @@ fn carrier_out(t: &mut Tool, name: &[u8], port: u32) -> Outcome {
     )?;
 
     let touched = Touched::NOTHING.port(t, p);
-    t.place_at(i, p);
-    t.carrier[i].came_out = 1;
-    let port = &mut t.port[p];
-    port.pod = 1;
-    port.tag = tag::READ;
-    port.transfer = transfer::READY_TO_UNLOAD;
+    t.bring_out(i, p);
     Ok(touched)
 }
 
@@ -552,7 +550,7 @@ pub(crate) fn unless(holds: bool, refusal: Refusal) -> Result<()> {
 
 /// The name, zero padded, if it is 1 to 16 bytes of 0x21 to 0x7E.
 #[inline]
-fn read_name(bytes: &[u8]) -> Result<[u8; NAME_LEN]> {
+pub(crate) fn read_name(bytes: &[u8]) -> Result<[u8; NAME_LEN]> {
     const ONES: Word = Word::MAX / 0xFF; // 0x01 in each byte
     const HIGH: Word = ONES << 7;
     let length = bytes.len();
@@ -590,7 +588,7 @@ fn read_switch(value: u32) -> Result<u8> {
 impl Port {
     /// Reserved or tied.
     #[inline]
-    fn held(&self) -> bool {
+    pub(crate) fn held(&self) -> bool {
         self.reserved != 0 || self.tied()
     }
 
@@ -603,7 +601,7 @@ impl Port {
 impl Tool {
     /// The index of a port given by its number.
     #[inline]
-    fn index(&self, port: u32) -> Result<usize> {
+    pub(crate) fn index(&self, port: u32) -> Result<usize> {
         unless((1..=self.ports as u32).contains(&port), Range)?;
         Ok(port as usize - 1)
     }
@@ -619,7 +617,7 @@ impl Tool {
 
     /// The record of this name.
     #[inline]
-    fn find(&self, name: [u8; NAME_LEN]) -> Option<usize> {
+    pub(crate) fn find(&self, name: [u8; NAME_LEN]) -> Option<usize> {
         let name = Word::from_le_bytes(name);
         self.carriers().iter().position(|c| c.word() == name)
     }
@@ -692,5 +690,15 @@ impl Tool {
         self.carrier[i].place = place::PORT;
         self.carrier[i].spot = 0;
         self.tie(i, p);
+    }
+    /// The effect of row 7: a carrier comes out of the buffer to a port.
+    #[inline]
+    pub(crate) fn bring_out(&mut self, i: usize, p: usize) {
+        self.place_at(i, p);
+        self.carrier[i].came_out = 1;
+        let port = &mut self.port[p];
+        port.pod = 1;
+        port.tag = tag::READ;
+        port.transfer = transfer::READY_TO_UNLOAD;
     }
 }

@@ -22,13 +22,13 @@ pub struct Input {
     pub codes: Vec<u8>,
 }
 
-/// A splitmix64 generator. `mood` lasts for some inputs and tells whether a run fills the tool or
-/// drains it, so that runs come to both ends.
+/// A splitmix64 generator. A mood lasts for some inputs and tells whether a run fills the tool, or the
+/// queue of P5, or drains it, so that runs come to both ends.
 #[derive(Clone, Debug)]
 pub struct Rng {
     state: u64,
-    mood: Mood,
-    left: u32,
+    tool: Lasting,
+    queue: Lasting,
 }
 
 #[derive(Clone, Copy, PartialEq, Debug)]
@@ -38,9 +38,17 @@ enum Mood {
     Drain,
 }
 
+/// A mood, and for how many inputs it lasts.
+#[derive(Clone, Copy, Debug)]
+struct Lasting {
+    mood: Mood,
+    left: u32,
+}
+
 impl Rng {
     pub fn new(seed: u64) -> Rng {
-        Rng { state: seed, mood: Mood::Even, left: 0 }
+        let over = Lasting { mood: Mood::Even, left: 0 };
+        Rng { state: seed, tool: over, queue: over }
     }
 
     pub fn draw(&mut self) -> u64 {
@@ -69,12 +77,21 @@ impl Rng {
     }
 
     fn mood(&mut self) -> Mood {
-        if self.left == 0 {
-            self.left = 50 + self.below(400);
-            self.mood = self.pick(&[Mood::Fill, Mood::Fill, Mood::Even, Mood::Drain]);
+        if self.tool.left == 0 {
+            self.tool.left = 50 + self.below(400);
+            self.tool.mood = self.pick(&[Mood::Fill, Mood::Fill, Mood::Even, Mood::Drain]);
         }
-        self.left -= 1;
-        self.mood
+        self.tool.left -= 1;
+        self.tool.mood
+    }
+
+    fn queue_mood(&mut self) -> Mood {
+        if self.queue.left == 0 {
+            self.queue.left = 50 + self.below(400);
+            self.queue.mood = self.pick(&[Mood::Fill, Mood::Even, Mood::Drain]);
+        }
+        self.queue.left -= 1;
+        self.queue.mood
     }
 }
 

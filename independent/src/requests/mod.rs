@@ -1,7 +1,7 @@
 //! The tool with document 02's requests: document 01's tool, and what each request adds to it.
 //!
-//! An input goes through the requests first, which may refuse it, then to document 01's row, then
-//! through the requests again, which may change what the row did. The reports are the differences
+//! An input goes through the requests first, which may refuse it or have a row of their own for it, then
+//! to document 01's row, then through the requests again, which may change what the row did. The reports are the differences
 //! between the state before all of this and the state after it. So far these have come:
 //!
 //! - P1, slot maps the tool can judge: `maps`.
@@ -9,9 +9,11 @@
 //! - P2, is anyone waiting: [`waiting`], which is asked of a table of records and not of a tool.
 //! - P3, SECS-II from the host bridge: [`secs`], which gives the tool an input.
 //! - P13, answers to the bridge: [`reply`], with the words of [`texts`].
+//! - P5, a queue for CarrierOut: [`queue`], which has rows of its own and takes row 7 over.
 
 mod maps;
 pub mod names;
+pub mod queue;
 pub mod reply;
 pub mod secs;
 pub mod texts;
@@ -22,10 +24,15 @@ use crate::rows::{answered, row, Outcome, Refusal};
 use crate::sound::all_zero;
 use crate::state::{Plain, Reports, MAP_LEN, MAX_CARRIERS};
 
+use queue::Queue;
+
 pub use waiting::waiting;
 
+/// How many inputs there are, numbered from 1.
+pub const INPUTS: u32 = 30;
+
 /// The bytes of a tool that no request has taken yet.
-pub const UNUSED: usize = 991;
+pub const UNUSED: usize = 702;
 
 #[derive(Clone, Copy, PartialEq, Eq, Debug)]
 #[repr(C)]
@@ -35,6 +42,8 @@ pub struct Tool {
     /// The expected map of each record, at the record's position: 25 codes of 1 and 3, or zeros
     /// where the record has none.
     pub maps: [[u8; MAP_LEN]; MAX_CARRIERS],
+    /// What is asked to come out of the buffer.
+    pub queue: Queue,
     pub unused: [u8; UNUSED],
 }
 
@@ -47,8 +56,12 @@ const _: () = {
 };
 
 impl Tool {
-    pub const NONE: Tool =
-        Tool { base: crate::Tool::NONE, maps: [[0; MAP_LEN]; MAX_CARRIERS], unused: [0; UNUSED] };
+    pub const NONE: Tool = Tool {
+        base: crate::Tool::NONE,
+        maps: [[0; MAP_LEN]; MAX_CARRIERS],
+        queue: Queue::EMPTY,
+        unused: [0; UNUSED],
+    };
 
     /// The expected map of record `i`, if it has one.
     #[inline]
@@ -65,7 +78,7 @@ pub fn setup(p: u32, b: u32, t: &mut Tool) -> u32 {
 
 /// Whether the state is sound: to document 01, and to each request.
 pub fn sound(t: &Tool) -> bool {
-    crate::sound(&t.base) && maps::sound(t) && all_zero(&t.unused)
+    crate::sound(&t.base) && maps::sound(t) && queue::sound(t) && all_zero(&t.unused)
 }
 
 /// Gives the tool an input: 0 if accepted, with the reports in `out`; otherwise the number of the
@@ -114,11 +127,16 @@ struct Given<'a> {
 fn amended(t: &mut Tool, given: &Given) -> Outcome {
     let map = maps::given(given)?;
     let name = names::given(given)?;
+    if let Some(outcome) = queue::row(t, given, name) {
+        return outcome;
+    }
+    queue::admit(t, given, name)?;
 
     let touched = row(&mut t.base, given.number, given.port, given.value, name, given.codes)?;
     move_with_records(t, &touched);
     maps::keep(t, &touched, map);
     maps::judge(t, &touched, given);
+    queue::drop_cancelled(t, given, name);
     Ok(touched)
 }
 

@@ -2,6 +2,7 @@
 
 mod maps;
 mod names;
+mod queue;
 pub mod secs;
 mod tables;
 
@@ -15,7 +16,8 @@ pub use tables::{random_table, LONGEST_TABLE};
 
 /// An input for this state, as a run might meet it.
 pub fn random_run_input(t: &Tool, rng: &mut Rng) -> Input {
-    let mut input = super::random_run_input(&t.base, rng);
+    let mut input = queue::draw_input(t, rng).unwrap_or_else(|| super::random_run_input(&t.base, rng));
+    queue::complete(t, &mut input, rng);
     maps::complete(t, &mut input, rng);
     names::complete(&mut input, rng);
     input
@@ -26,21 +28,24 @@ pub fn random_run_input(t: &Tool, rng: &mut Rng) -> Input {
 pub fn random_sound_tool(rng: &mut Rng) -> Tool {
     let mut t = Tool { base: super::random_sound_tool(rng), ..Tool::NONE };
     maps::draw(&mut t, rng);
+    queue::draw(&mut t, rng);
     assert!(crate::requests::sound(&t), "not sound: {}", describe(&t));
     t
 }
 
 /// Damages what the requests hold for a tool. What comes out may still be sound.
 pub fn damage(t: &mut Tool, rng: &mut Rng) {
-    if rng.chance(20) {
-        let at = match rng.below(3) {
-            0 => 0,
-            1 => UNUSED as u32 - 1,
-            _ => rng.below(UNUSED as u32),
-        };
-        t.unused[at as usize] = rng.pick(&[1, 1, 3, 0x80, 0xFF]);
-    } else {
-        maps::damage(t, rng);
+    match rng.below(100) {
+        0..=9 => {
+            let at = match rng.below(3) {
+                0 => 0,
+                1 => UNUSED as u32 - 1,
+                _ => rng.below(UNUSED as u32),
+            };
+            t.unused[at as usize] = rng.pick(&[1, 1, 3, 0x80, 0xFF]);
+        }
+        10..=49 => maps::damage(t, rng),
+        _ => queue::damage(t, rng),
     }
 }
 
@@ -48,6 +53,7 @@ pub fn damage(t: &mut Tool, rng: &mut Rng) {
 pub fn describe(t: &Tool) -> String {
     let mut out = super::describe(&t.base);
     maps::describe(t, &mut out);
+    queue::describe(t, &mut out);
     if t.unused.iter().any(|&byte| byte != 0) {
         out.push_str("  unused bytes aren't zero\n");
     }
