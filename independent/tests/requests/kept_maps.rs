@@ -18,7 +18,7 @@ fn set_up_is_as_it_was_with_zeros_after_it() {
         assert_eq!(sound(&t), good);
         if !good {
             let mut out = Reports::NONE;
-            for number in 0..=27 {
+            for number in 0..=31 {
                 assert_eq!(step(&mut t, number, 1, 1, b"A", &THREES, &mut out), 1);
                 assert_eq!((t.bytes(), out), (&[0; 3782][..], Reports::NONE));
             }
@@ -132,7 +132,7 @@ fn a_bad_map_comes_before_every_other_refusal() {
 
 #[test]
 fn other_rows_do_not_look_at_the_codes() {
-    for number in (2..=26).filter(|number| ![3, 20].contains(number)) {
+    for number in (2..=30).filter(|number| ![3, 20].contains(number)) {
         for codes in [&[9; 300][..], &THREES, &[3; 24]] {
             let mut t = tool(1, 2);
             accept_codes(&mut t, 3, 0, "A", &mixed(1));
@@ -276,8 +276,9 @@ fn an_expected_record_keeps_its_map() {
     }
 
     // Into the buffer, out and in again, opened and closed, and cancelled.
-    let rows = [(18, 1, 2, ""), (7, 1, 0, "A"), (8, 0, 0, "A"), (18, 1, 1, ""), (19, 0, 0, "A")];
-    for (number, port, value, name) in rows.into_iter().chain([(23, 0, 0, "A"), (6, 0, 0, "A")]) {
+    let out = [(18, 1, 2, ""), (7, 1, 0, "A"), (27, 1, 0, ""), (28, 1, 0, "")];
+    let rows = [(8, 0, 0, "A"), (18, 1, 1, ""), (19, 0, 0, "A"), (23, 0, 0, "A"), (6, 0, 0, "A")];
+    for (number, port, value, name) in out.into_iter().chain(rows) {
         accept(&mut t, number, port, value, name);
         assert_eq!((map_of(&t, "A"), map_of(&t, "BOUND")), (mixed(1), mixed(2)));
     }

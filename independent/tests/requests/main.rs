@@ -7,6 +7,8 @@ mod judged_maps;
 mod kept_maps;
 mod names;
 mod plain;
+mod plain_queue;
+mod queue;
 mod runs;
 mod soundness;
 mod waiting;

@@ -253,11 +253,11 @@ fn a_bad_name_is_refused_first() {
 #[test]
 fn rows_that_take_no_name() {
     let mut rng = Rng::new(15);
-    let mut met = [[0; 2]; 27];
+    let mut met = [[0; 2]; 31];
     for _ in 0..60_000 {
         let t = random_sound_tool(&mut rng);
         let i = random_run_input(&t, &mut rng);
-        if NAMED.contains(&i.number) || !(1..=26).contains(&i.number) {
+        if NAMED.contains(&i.number) || !(1..=30).contains(&i.number) {
             continue;
         }
         let plain = outcome(&t, &Input { name: Vec::new(), ..i.clone() });
@@ -266,8 +266,10 @@ fn rows_that_take_no_name() {
         met[i.number as usize][(plain.0 == 0) as usize] += 1;
     }
     println!("{met:?}");
-    for number in (1..=26).filter(|number| !NAMED.contains(number)) {
-        assert!(met[number as usize].iter().all(|&met| met > 5), "row {number}: {met:?}");
+    for number in (1..=30).filter(|number| !NAMED.contains(number)) {
+        // Row 30 is never refused.
+        let wanted = if number == 30 { 1.. } else { 0.. };
+        assert!(met[number as usize][wanted].iter().all(|&met| met > 5), "row {number}: {met:?}");
     }
 }
 

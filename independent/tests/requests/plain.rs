@@ -6,8 +6,10 @@ use independent::requests::Tool;
 use independent::{Plain, Reports};
 
 use crate::common::{plain_reports, plainly_sound as plainly_sound_before};
+use crate::plain_queue;
 
-/// Document 01's words; each record has 0 or 25 codes of 1 and 3; unused bytes are zero.
+/// Document 01's words; each record has 0 or 25 codes of 1 and 3; the words on the queue; unused bytes
+/// are zero.
 pub fn plainly_sound(t: &Tool) -> bool {
     plainly_sound_before(&t.base)
         && t.maps.iter().enumerate().all(|(i, map)| {
@@ -19,6 +21,7 @@ pub fn plainly_sound(t: &Tool) -> bool {
                 none
             }
         })
+        && plain_queue::plainly_sound(t)
         && t.unused.iter().all(|&byte| byte == 0)
 }
 
@@ -29,7 +32,7 @@ fn map_of(t: &Tool, name: [u8; 16]) -> Option<Vec<u8>> {
 }
 
 /// The rows that have a name among their parts.
-pub const NAMED: [u32; 14] = [1, 2, 3, 4, 5, 6, 7, 8, 16, 19, 20, 21, 22, 23];
+pub const NAMED: [u32; 15] = [1, 2, 3, 4, 5, 6, 7, 8, 16, 19, 20, 21, 22, 23, 29];
 
 /// The name in a text: blanks at the end go one by one.
 pub fn plain_name(text: &[u8]) -> Option<Vec<u8>> {
@@ -59,6 +62,12 @@ pub fn plain_step(before: &Tool, i: &Input) -> (u32, Tool, Reports) {
     if carries_map && !good {
         return (1, *before, Reports::NONE);
     }
+    if let Some(given) = plain_queue::step(before, &i) {
+        return given;
+    }
+    if let Some(refusal) = plain_queue::held(before, &i) {
+        return (refusal, *before, Reports::NONE);
+    }
     let mut base = before.base;
     let mut reports = Reports::NONE;
     let answer = independent::step(&mut base, i.number, i.port, i.value, &i.name, &i.codes, &mut reports);
@@ -68,7 +77,7 @@ pub fn plain_step(before: &Tool, i: &Input) -> (u32, Tool, Reports) {
     if i.number == 20 && map_of(before, padded(&i.name)).unwrap() == i.codes {
         base.carrier.iter_mut().find(|c| c.name == padded(&i.name)).unwrap().slot = 3;
     }
-    let mut after = Tool { base, ..Tool::NONE };
+    let mut after = Tool { base, queue: plain_queue::after(before, &i), ..Tool::NONE };
     for (k, c) in base.carriers().iter().enumerate() {
         let new = if carries_map { i.codes.clone() } else { Vec::new() };
         let map = map_of(before, c.name).unwrap_or(new);

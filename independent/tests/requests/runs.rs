@@ -10,6 +10,16 @@ use independent::{Report, Reports};
 use crate::common::ALLOWED;
 use crate::plain::{plain_name, plain_step, plainly_sound, same};
 
+/// The rows that P5 changes or adds, as [`ALLOWED`] has the others. Row 30 is never refused in a sound state.
+const QUEUED: [(u32, &[u32]); 6] = [
+    (7, &[0, 1, 2, 5, 9, 10]),
+    (13, &[0, 1, 4, 5]),
+    (27, &[0, 1, 4, 5]),
+    (28, &[0, 1, 5]),
+    (29, &[0, 1, 5]),
+    (30, &[0]),
+];
+
 /// How often each answer to each row was met, and how often a slot map was OK at once or was asked
 /// about although a map was expected.
 #[derive(Clone, Default)]
@@ -125,7 +135,7 @@ fn every_pair_is_met_and_slot_maps_are_judged() {
             met.inputs, met.at_once, met.asked
         );
         assert!(met.at_once > 200 && met.asked > 200);
-        for (row, answers) in ALLOWED {
+        for (row, answers) in ALLOWED.into_iter().filter(|(row, _)| ![7, 13].contains(row)).chain(QUEUED) {
             for &answer in answers {
                 assert!(met.answers.contains_key(&(row, answer)), "{kind}: row {row} never answers {answer}");
             }

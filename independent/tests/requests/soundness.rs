@@ -1,4 +1,4 @@
-//! `sound` against the plain words, where a map or an unused byte is not as it should be.
+//! `sound` against the plain words, where a map, a request or an unused byte is not as it should be.
 
 use independent::gen::requests::{damage, describe, random_sound_tool};
 use independent::gen::Rng;
@@ -9,7 +9,7 @@ use crate::plain::plainly_sound;
 use crate::{accept_codes, tool, ONES, THREES};
 
 /// Whether the state is sound; one that isn't is answered 1 with nothing changed.
-fn compare(t: &Tool) -> bool {
+pub fn compare(t: &Tool) -> bool {
     let is = sound(t);
     assert_eq!(is, plainly_sound(t), "{}", describe(t));
     let mut u = *t;
@@ -81,7 +81,7 @@ fn a_map_without_a_record() {
 #[test]
 fn unused_bytes_are_zero() {
     let t = tool(2, 3);
-    for at in 0..991 {
+    for at in 0..702 {
         for value in [1, 3, 0x80, 0xFF] {
             let mut u = t;
             u.unused[at] = value;

@@ -35,7 +35,7 @@ pub(super) fn draw_input(t: &Tool, rng: &mut Rng) -> Option<Input> {
         k if k < asks => ask(t, rng),
         k if k < asks + starts => start(t, rng),
         k if k < asks + starts + ends => pick_request(t, rng, |r| r.started == 1).map(|r| at(28, r.port)),
-        97.. => meet(t, rng, mood),
+        94.. => meet(t, rng, mood),
         _ => None,
     }
 }
@@ -74,7 +74,8 @@ fn start(t: &Tool, rng: &mut Rng) -> Option<Input> {
 /// What may meet a request while it waits, and while it is started. What drops many is rare where the
 /// queue is to be filled.
 fn meet(t: &Tool, rng: &mut Rng, mood: Mood) -> Option<Input> {
-    let r = pick_request(t, rng, |_| true)?;
+    let begun = rng.chance(50);
+    let r = pick_request(t, rng, |r| !begun || r.started == 1)?;
     let drops = mood != Mood::Fill || rng.chance(20);
     Some(match rng.below(10) {
         0 | 1 => of(19, &r.name),
@@ -104,7 +105,7 @@ pub(super) fn complete(t: &Tool, input: &mut Input, rng: &mut Rng) {
 /// Requests for some of the carriers in the buffer, in any order, and some of them started; and ports
 /// that could take one.
 pub(super) fn draw(t: &mut Tool, rng: &mut Rng) {
-    let asked = rng.pick(&[0, 30, 70, 100, 100]);
+    let asked = rng.pick(&[0, 30, 90, 100, 100]);
     let mut names: Vec<_> = t.base.carriers().iter().filter(|c| c.in_buffer()).map(|c| c.name).collect();
     shuffle(&mut names, rng);
     for name in names.into_iter().filter(|_| rng.chance(asked)).collect::<Vec<_>>() {
