@@ -1,5 +1,6 @@
 //! Inputs and states for the tool with requests: document 01's, and what each request adds.
 
+mod befalls;
 mod maps;
 mod names;
 mod queue;
@@ -11,6 +12,7 @@ use std::string::String;
 use super::{Input, Rng};
 use crate::requests::{Tool, UNUSED};
 
+pub use befalls::{befalls, BEFALLS};
 pub use names::random_text;
 pub use tables::{random_table, LONGEST_TABLE};
 
