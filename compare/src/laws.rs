@@ -6,6 +6,7 @@ use independent::Plain;
 
 use crate::machine::{Bridged, Outcome};
 use crate::pairs::may_answer;
+use crate::queue;
 use crate::script::tabled;
 
 /// Why an outcome on which the programs agree is against the documents.
@@ -20,11 +21,14 @@ pub fn unlawful(before: &Tool, input: &Input, o: &Outcome) -> Option<String> {
     if !o.accepted() && (o.reports.count != 0 || o.tool.bytes() != before.bytes()) {
         return Some("a refusal changes no state and leaves no report".into());
     }
-    badly_named(input, o).or_else(|| badly_carried(input, o)).or_else(|| badly_judged(before, input, o))
+    badly_named(input, o)
+        .or_else(|| badly_carried(input, o))
+        .or_else(|| badly_judged(before, input, o))
+        .or_else(|| queue::unlawful(before, input, o))
 }
 
 /// The rows that take a name.
-const NAMED: [u32; 14] = [1, 2, 3, 4, 5, 6, 7, 8, 16, 19, 20, 21, 22, 23];
+const NAMED: [u32; 15] = [1, 2, 3, 4, 5, 6, 7, 8, 16, 19, 20, 21, 22, 23, 29];
 
 /// P4: the bytes before the blanks at the end of a text.
 pub fn shortened(mut text: &[u8]) -> &[u8] {

@@ -11,6 +11,7 @@ mod machine;
 mod pairs;
 mod parts;
 mod play;
+mod queue;
 mod script;
 mod shrink;
 mod table;
@@ -27,7 +28,8 @@ use machine::{Both, Independent, Proved};
 use parts::judge::Judges;
 use parts::waiting::Looks;
 use parts::{
-    damaged, edges, judge, maps, messages, names, odd, replies, runs, setups, states, twelve, waiting,
+    damaged, edges, judge, maps, messages, names, odd, out, replies, runs, setups, small, states, twelve,
+    waiting,
 };
 use play::Finding;
 use table::Table;
@@ -88,6 +90,8 @@ fn compare(
     table.line("slot maps the tool can judge", &maps::compare(both)?);
     table.line("names padded with blanks", &names::compare(both)?);
     table.texts = names::texts(both, total, &mut rng)?;
+    table.line("a queue for CarrierOut", &out::compare(both)?);
+    table.line("every state of small tools with a queue", &small::compare(both)?);
     table.line("set-ups in and out of range", &setups::compare(both, &mut rng)?);
     let along_runs = runs::compare(both, total, &mut rng)?;
     table.line("random runs, every P and B", &along_runs);
@@ -96,6 +100,7 @@ fn compare(
     table.line("inputs from random sound states", &from_states);
     table.at_once = [along_runs.at_once, from_states.at_once];
     table.padded = [along_runs.padded, from_states.padded];
+    table.befallen = [along_runs.befallen, from_states.befallen];
     table.damage("every byte damaged", &damaged::every_byte(both, total, &mut rng)?);
     table.damage("parts mixed up", &damaged::mixed_up(both, total / 4, &mut rng)?);
     table.damage("random bytes", &damaged::random_bytes(both, total / 8, &mut rng)?);

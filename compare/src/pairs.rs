@@ -1,23 +1,24 @@
-//! Which answers each row has given: document 01 allows 104 pairs of a row and an answer.
+//! Which answers each row has given: the documents allow 117 pairs of a row and an answer to a sound tool.
 //!
-//! P1 adds none: a map that can't be expected is 1, which rows 1 and 3 had already, and row 20 has no new number.
-//! That a slot map was OK at once shows in no pair, and is counted by itself.
+//! P1 adds none to document 01's 104: a map that can't be expected is 1, which rows 1 and 3 had already, and row 20 has
+//! no new number. That a slot map was OK at once shows in no pair, and is counted by itself. P5 takes 4 from row 7 and
+//! gives it 9 and 10, gives 4 to row 13, and adds four rows: 13 pairs more. Rows 12 and 19 had 4 and 5 already.
 
-/// Each row's answers: 0, 1, and what its text in document 01 names.
-pub const ALLOWED: [&[u32]; 26] = [
+/// Each row's answers to a sound tool: 0, 1, and what its text names. Row 30 has no part that could be out of range.
+pub const ALLOWED: [&[u32]; 30] = [
     &[0, 1, 3, 4, 5, 6],
     &[0, 1, 2, 5],
     &[0, 1, 3, 6],
     &[0, 1, 2, 5],
     &[0, 1, 2, 5],
     &[0, 1, 2, 5],
-    &[0, 1, 2, 4, 5],
+    &[0, 1, 2, 5, 9, 10],
     &[0, 1, 2, 5],
     &[0, 1, 4, 5],
     &[0, 1, 4, 5],
     &[0, 1, 4, 5],
     &[0, 1, 4, 5],
-    &[0, 1, 5],
+    &[0, 1, 4, 5],
     &[0, 1, 5],
     &[0, 1, 5],
     &[0, 1, 3, 5],
@@ -31,17 +32,21 @@ pub const ALLOWED: [&[u32]; 26] = [
     &[0, 1, 5],
     &[0, 1, 5],
     &[0, 1, 5],
+    &[0, 1, 4, 5],
+    &[0, 1, 5],
+    &[0, 1, 5],
+    &[0],
 ];
 
-/// How many pairs document 01 allows.
+/// How many pairs the documents allow.
 pub fn allowed() -> usize {
     ALLOWED.iter().map(|answers| answers.len()).sum()
 }
 
-/// Whether document 01 allows this answer to this input number.
+/// Whether the documents allow this answer to this input number. 1 is also the answer of a tool that isn't sound.
 pub fn may_answer(number: u32, answer: u32) -> bool {
     let row = (number as usize).checked_sub(1).and_then(|row| ALLOWED.get(row));
-    row.map_or(answer == 1, |answers| answers.contains(&answer))
+    answer == 1 || row.is_some_and(|answers| answers.contains(&answer))
 }
 
 /// The pairs met, as a bit for each answer in a row's word.
@@ -49,10 +54,11 @@ pub fn may_answer(number: u32, answer: u32) -> bool {
 pub struct Pairs([u16; ALLOWED.len()]);
 
 impl Pairs {
-    /// Takes note of an answer that `may_answer` allows.
+    /// Takes note of an answer that a sound tool may give; another is no pair.
     pub fn meet(&mut self, number: u32, answer: u32) {
-        if let Some(row) = (number as usize).checked_sub(1).and_then(|row| self.0.get_mut(row)) {
-            *row |= 1 << answer;
+        let row = (number as usize).wrapping_sub(1);
+        if ALLOWED.get(row).is_some_and(|answers| answers.contains(&answer)) {
+            self.0[row] |= 1 << answer;
         }
     }
 
@@ -60,7 +66,7 @@ impl Pairs {
         self.0.iter().map(|row| row.count_ones() as usize).sum()
     }
 
-    /// The pairs that document 01 allows and that were not met.
+    /// The pairs that the documents allow and that were not met.
     pub fn missing(&self) -> Vec<(usize, u32)> {
         let unmet = |row: usize, answer: u32| self.0[row] & 1 << answer == 0;
         let pairs = ALLOWED.iter().enumerate().flat_map(|(row, all)| all.iter().map(move |&a| (row, a)));
@@ -73,9 +79,10 @@ mod tests {
     use super::*;
 
     #[test]
-    fn document_01_allows_104_pairs() {
-        assert_eq!(allowed(), 104);
-        assert!(may_answer(19, 7) && !may_answer(19, 6) && !may_answer(27, 0) && may_answer(0, 1));
+    fn the_documents_allow_117_pairs() {
+        assert_eq!(allowed(), 117);
+        assert!(may_answer(19, 7) && !may_answer(19, 6) && !may_answer(31, 0) && may_answer(0, 1));
+        assert!(may_answer(7, 10) && !may_answer(7, 4) && may_answer(13, 4) && may_answer(30, 1));
     }
 
     #[test]
@@ -86,8 +93,9 @@ mod tests {
                 pairs.meet(row as u32 + 1, answer);
             }
         }
-        pairs.meet(27, 1);
-        pairs.meet(0, 1);
-        assert_eq!((pairs.met(), pairs.missing()), (103, vec![(21, 7)]));
+        for number in [0, 30, 31] {
+            pairs.meet(number, 1);
+        }
+        assert_eq!((pairs.met(), pairs.missing()), (116, vec![(21, 7)]));
     }
 }

@@ -6,6 +6,7 @@ use independent::requests::Tool;
 use crate::laws::{padded, unlawful};
 use crate::machine::{Both, Outcome};
 use crate::pairs::Pairs;
+use crate::queue::Befallen;
 use crate::script::{tabled, Run};
 
 /// What ends the comparison.
@@ -34,7 +35,7 @@ pub enum Finding {
 }
 
 /// How many inputs were compared, how many of them were accepted, which pairs were met, how many slot maps
-/// were OK at once, and how many accepted inputs had a name with blanks at its end.
+/// were OK at once, how many accepted inputs had a name with blanks at its end, and what befell the queues.
 #[derive(Clone, Copy, Default)]
 pub struct Tally {
     pub inputs: u64,
@@ -42,15 +43,17 @@ pub struct Tally {
     pub pairs: Pairs,
     pub at_once: u64,
     pub padded: u64,
+    pub befallen: Befallen,
 }
 
 impl Tally {
-    fn note(&mut self, input: &Input, o: &Outcome) {
+    fn note(&mut self, before: &Tool, input: &Input, o: &Outcome) {
         self.inputs += 1;
         self.accepted += o.accepted() as u64;
         self.pairs.meet(input.number, o.answer);
         self.at_once += ok_at_once(input, o) as u64;
         self.padded += (o.accepted() && padded(input)) as u64;
+        self.befallen.note(before, input, o);
     }
 
     pub fn percent(&self) -> f64 {
@@ -72,7 +75,7 @@ pub fn from_state(both: &Both, tally: &mut Tally, tool: &Tool, input: &Input) ->
     if let Some(why) = unlawful(tool, input, &o) {
         return Err(Finding::Law(Box::new(*tool), input.clone(), why));
     }
-    tally.note(input, &o);
+    tally.note(tool, input, &o);
     Ok(o)
 }
 
@@ -107,7 +110,7 @@ impl<'a> Player<'a> {
         if let Some(why) = unlawful(&self.tool, input, &o) {
             return Err(Finding::Document(self.with(input), why));
         }
-        self.tally.note(input, &o);
+        self.tally.note(&self.tool, input, &o);
         Ok(o)
     }
 

@@ -3,6 +3,7 @@
 use std::fmt::Write;
 
 use independent::gen::Input;
+use independent::requests::queue::{Queue, Request};
 use independent::requests::Tool;
 use independent::{Plain, Reports};
 
@@ -79,9 +80,12 @@ const CARRIER: usize = size_of::<independent::Carrier>();
 const CARRIERS: usize = HEAD + 4 * PORT;
 const MAPS: usize = size_of::<independent::Tool>();
 const MAP: usize = 25;
+const QUEUE: usize = MAPS + 36 * MAP;
+const REQUEST: usize = size_of::<Request>();
+const UNUSED: usize = QUEUE + size_of::<Queue>();
 
-/// A tool's bytes: its head, its ports, the records up to the last that isn't zero, the expected maps, and what is
-/// not zero of the bytes that should be.
+/// A tool's bytes: its head, its ports, the records up to the last that isn't zero, the expected maps, the requests,
+/// and what is not zero of the bytes that should be.
 pub fn bytes(tool: &Tool) -> String {
     let all = tool.base.bytes();
     let mut out = format!("  head      {}\n", hex(&all[..HEAD]));
@@ -97,10 +101,26 @@ pub fn bytes(tool: &Tool) -> String {
         let name = hex(unpadded(&tool.base.carrier[k].name));
         let _ = writeln!(out, "  map {name} {} (record {})", hex(map), k + 1);
     }
+    out += &requests(tool);
     if let Some(last) = tool.unused.iter().rposition(|&byte| byte != 0) {
         let _ = writeln!(out, "  unused    {}", hex(&tool.unused[..=last]));
     }
     let _ = writeln!(out, "  and zeros to the end");
+    out
+}
+
+/// Each request, and a count that isn't theirs.
+fn requests(tool: &Tool) -> String {
+    let mut out = String::new();
+    let is_one = |r: &Request| *r != Request::UNUSED;
+    let used = tool.queue.request.iter().rposition(is_one).map_or(0, |last| last + 1);
+    for (k, r) in tool.queue.request[..used.max(tool.queue.requests().len())].iter().enumerate() {
+        let _ =
+            writeln!(out, "  out {} {} {} (request {})", hex(unpadded(&r.name)), r.port, r.started, k + 1);
+    }
+    if tool.queue.count as usize != used {
+        let _ = writeln!(out, "  requests  {}", tool.queue.count);
+    }
     out
 }
 
@@ -119,8 +139,7 @@ pub fn field(at: usize) -> String {
         return format!("port {} {what}", p + 1);
     }
     if at >= MAPS {
-        let k = (at - MAPS) / MAP;
-        return if k < 36 { format!("record {} expected map", k + 1) } else { "unused".into() };
+        return field_of_requests(at);
     }
     let (k, at) = ((at - CARRIERS) / CARRIER, (at - CARRIERS) % CARRIER);
     let what = match at {
@@ -130,6 +149,26 @@ pub fn field(at: usize) -> String {
         _ => ["id", "slot", "accessing"][at - 47],
     };
     format!("record {} {what}", k + 1)
+}
+
+/// The same for what document 02's requests have added.
+fn field_of_requests(at: usize) -> String {
+    if at < QUEUE {
+        return format!("record {} expected map", (at - MAPS) / MAP + 1);
+    }
+    if at == QUEUE {
+        return "requests".into();
+    }
+    if at >= UNUSED {
+        return "unused".into();
+    }
+    let (k, at) = ((at - QUEUE - 1) / REQUEST, (at - QUEUE - 1) % REQUEST);
+    let what = match at {
+        16 => "port",
+        17 => "started",
+        _ => "name",
+    };
+    format!("request {} {what}", k + 1)
 }
 
 #[cfg(test)]
@@ -165,6 +204,14 @@ mod tests {
         let named = |tool: &Tool| field(tool.bytes().iter().position(|&b| b != 0).unwrap());
         tool.unused[0] = 1;
         assert_eq!(named(&tool), "unused");
+        tool.queue.request[15].started = 1;
+        assert_eq!(named(&tool), "request 16 started");
+        tool.queue.request[15].port = 1;
+        assert_eq!(named(&tool), "request 16 port");
+        tool.queue.request[0].name[15] = 1;
+        assert_eq!(named(&tool), "request 1 name");
+        tool.queue.count = 1;
+        assert_eq!(named(&tool), "requests");
         tool.maps[35][24] = 1;
         assert_eq!(named(&tool), "record 36 expected map");
         tool.maps[0][0] = 1;
@@ -199,5 +246,23 @@ mod tests {
         assert_eq!(lines[9], format!("  map 4144 {} (record 3)", "01".repeat(25)));
         assert_eq!(lines[10], format!("  map - 0002{} (record 36)", "00".repeat(23)));
         assert_eq!(lines[11..], ["  unused    0000ff", "  and zeros to the end"]);
+    }
+
+    #[test]
+    fn requests_are_shown_as_the_command_line_does() {
+        let mut tool = Tool::NONE;
+        assert_eq!(requests(&tool), "");
+        for (k, name) in [b"AB", b"AC"].into_iter().enumerate() {
+            tool.queue.request[k].name[..2].copy_from_slice(name);
+            (tool.queue.request[k].port, tool.queue.request[k].started) = (k as u8 + 3, k as u8);
+        }
+        tool.queue.count = 2;
+        let both = "  out 4142 3 0 (request 1)\n  out 4143 4 1 (request 2)\n";
+        assert_eq!(requests(&tool), both);
+        tool.queue.count = 17;
+        assert!(requests(&tool).ends_with("(request 16)\n  requests  17\n"), "{}", requests(&tool));
+        tool.queue.count = 1;
+        assert_eq!(requests(&tool), format!("{both}  requests  1\n"));
+        assert_eq!((QUEUE, UNUSED), (2791, 3080));
     }
 }

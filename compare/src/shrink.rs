@@ -1,6 +1,7 @@
 //! The shortest script that still shows a difference.
 
 use independent::gen::Input;
+use independent::requests::queue::{Request, MAX_REQUESTS};
 use independent::requests::Tool;
 use independent::Carrier;
 
@@ -201,9 +202,20 @@ fn plainer_inputs(both: &Both, best: &mut Run) {
     }
 }
 
-/// The state without record `i`, its tie and its map; sound if the state was.
-fn without(tool: &Tool, i: usize) -> Tool {
+/// The state without request `k`; sound if the state was. Its port stays reserved.
+fn without_request(tool: &Tool, k: usize) -> Tool {
     let mut tool = *tool;
+    tool.queue.request.copy_within(k + 1.., k);
+    tool.queue.request[MAX_REQUESTS - 1] = Request::UNUSED;
+    tool.queue.count = tool.queue.count.saturating_sub(1);
+    tool
+}
+
+/// The state without record `i`, its tie, its map and its request; sound if the state was.
+fn without(tool: &Tool, i: usize) -> Tool {
+    let name = tool.base.carrier[i].name;
+    let asked = tool.queue.requests().iter().position(|r| r.name == name);
+    let mut tool = asked.map_or(*tool, |k| without_request(tool, k));
     let base = &mut tool.base;
     let port = base.carrier[i].port as usize;
     if let Some(port) = port.checked_sub(1).and_then(|p| base.port.get_mut(p)) {
@@ -218,9 +230,15 @@ fn without(tool: &Tool, i: usize) -> Tool {
     tool
 }
 
-/// A state with fewer records and maps that shows a difference still.
+/// A state with fewer requests, records and maps that shows a difference still.
 pub fn smallest(tool: &Tool, differs: impl Fn(&Tool) -> bool) -> Tool {
     let mut best = *tool;
+    for k in (0..MAX_REQUESTS).rev() {
+        let candidate = without_request(&best, k);
+        if best.queue.request[k] != Request::UNUSED && differs(&candidate) {
+            best = candidate;
+        }
+    }
     let mut i = (best.base.count as usize).min(best.base.carrier.len());
     while i > 0 {
         i -= 1;

@@ -2,6 +2,8 @@
 
 use std::process::ExitCode;
 
+use independent::gen::requests::BEFALLS;
+
 use crate::pairs::{allowed, Pairs};
 use crate::parts::damaged::Damage;
 use crate::parts::judge::Logs;
@@ -10,6 +12,7 @@ use crate::parts::names::Texts;
 use crate::parts::replies::Replies;
 use crate::parts::waiting::Tables;
 use crate::play::Tally;
+use crate::queue::Befallen;
 
 /// Runs that refuse most of what they are given would show little.
 const LEAST_ACCEPTED: f64 = 60.0;
@@ -23,6 +26,8 @@ pub struct Table {
     pub at_once: [u64; 2],
     /// Accepted inputs whose name was padded, along the runs and from states.
     pub padded: [u64; 2],
+    /// What befell the queues, along the runs and from states.
+    pub befallen: [Befallen; 2],
     pub texts: Texts,
     pub tables: Tables,
     pub messages: Messages,
@@ -67,8 +72,11 @@ impl Table {
     /// A line for each part that left out what it must meet.
     fn unmet(&self) -> Vec<String> {
         let pairs = self.along_runs.missing().iter().map(|(row, answer)| format!("{row} {answer}")).collect();
-        let parts: [(&str, Vec<String>); 4] = [
+        let [queues_of_runs, queues_of_states] = self.befallen;
+        let parts: [(&str, Vec<String>); 6] = [
             ("along the runs, row and answer", pairs),
+            ("along the runs, by a queue", queues_of_runs.unmet()),
+            ("from states, by a queue", queues_of_states.unmet()),
             ("among the messages", self.messages.unmet()),
             ("among the messages that are answered", self.replies.unmet()),
             ("among the logs", self.logs.unmet()),
@@ -95,6 +103,8 @@ impl Table {
         println!("{runs} slot maps were OK at once along the runs, {states} from random sound states");
         let [runs, states] = self.padded;
         println!("{runs} padded names were accepted along the runs, {states} from random sound states");
+        let ([runs, states], all) = (self.befallen.map(|befallen| befallen.met()), BEFALLS.len());
+        println!("of {all} things that may befall a queue {runs} did along the runs, {states} from random sound states");
         let Texts { compared, names } = self.texts;
         println!("{compared} texts were given to the name check alone, {names} of them have a name");
         let Tables { compared, waiting } = self.tables;
@@ -117,8 +127,9 @@ mod tests {
     #[test]
     fn what_is_not_met_is_told() {
         let lines = Table::default().unmet();
-        assert_eq!(lines.len(), 7, "{lines:?}");
-        assert_eq!(lines[3], "NOT MET among the logs: agrees, disagrees, 27, 28, 29");
-        assert_eq!(lines[5], "NO SLOT MAP was OK at once along the runs, or none from states");
+        assert_eq!(lines.len(), 9, "{lines:?}");
+        assert!(lines[1].starts_with("NOT MET along the runs, by a queue: CancelCarrier of"), "{lines:?}");
+        assert_eq!(lines[5], "NOT MET among the logs: agrees, disagrees, 27, 28, 29");
+        assert_eq!(lines[7], "NO SLOT MAP was OK at once along the runs, or none from states");
     }
 }

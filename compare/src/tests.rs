@@ -4,6 +4,7 @@ mod wrong_logs;
 mod wrong_maps;
 mod wrong_messages;
 mod wrong_names;
+mod wrong_queue;
 mod wrong_replies;
 
 use independent::gen::requests::random_run_input;
@@ -12,7 +13,7 @@ use independent::requests::Tool;
 use independent::{Report, Reports};
 
 use crate::machine::{Both, Bridged, Heard, Independent, Machine, Outcome};
-use crate::parts::{damaged, edges, maps, messages, names, odd, runs, setups, states, twelve};
+use crate::parts::{damaged, edges, maps, messages, names, odd, out, runs, setups, small, states, twelve};
 use crate::play::{Finding, Player, Tally};
 use crate::script::Run;
 use crate::shrink::{differs_after, shortest};
@@ -207,6 +208,8 @@ fn first_finding(both: &Both) -> Option<Finding> {
         maps::compare(both)?;
         names::compare(both)?;
         names::texts(both, 5_000, &mut rng)?;
+        out::compare(both)?;
+        small::compare(both)?;
         setups::compare(both, &mut rng)?;
         runs::compare(both, 5_000, &mut rng)?;
         states::compare(both, 5_000, &mut rng)?;

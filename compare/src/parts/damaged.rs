@@ -9,7 +9,7 @@ use crate::machine::Both;
 use crate::play::{from_state, Finding, Tally};
 
 /// What every byte is set to, besides its own value one more, one less, and with the high bit turned.
-const VALUES: [u8; 13] = [0, 1, 2, 3, 4, 5, 6, 17, 0x20, 0x41, 0x7E, 0x7F, 255];
+const VALUES: [u8; 14] = [0, 1, 2, 3, 4, 5, 6, 16, 17, 0x20, 0x41, 0x7E, 0x7F, 255];
 
 /// Inputs from one tool, each with one byte changed.
 const EACH: usize = size_of::<Tool>() * (VALUES.len() + 3);
@@ -30,7 +30,7 @@ pub fn every_byte(both: &Both, total: u64, rng: &mut Rng) -> Result<Damage, Find
     let tools = (total as usize).div_ceil(EACH).max(3);
     for k in 0..tools {
         let whole = match k {
-            0 => most_records(rng),
+            0 => fullest(rng),
             1 => both.setup(2, 3).map_or(Tool::NONE, |(_, tool)| tool),
             2 => Tool::NONE,
             _ => random_sound_tool(rng),
@@ -50,7 +50,7 @@ pub fn every_byte(both: &Both, total: u64, rng: &mut Rng) -> Result<Damage, Find
 }
 
 /// Sound tools in which one record or port has a part of another, so that names, places or ties no longer agree; or
-/// in which a map, or a byte that is unused, isn't as it should be.
+/// in which a map, a request, what it needs, or a byte that is unused, isn't as it should be.
 pub fn mixed_up(both: &Both, total: u64, rng: &mut Rng) -> Result<Damage, Finding> {
     let mut damage = Damage::default();
     while damage.tally.inputs < total {
@@ -98,10 +98,13 @@ fn tool_of(bytes: &[u8]) -> Tool {
     Tool::from_bytes(bytes).expect("as long as a tool")
 }
 
-/// A random sound tool with as many records as some hundred draws give.
-fn most_records(rng: &mut Rng) -> Tool {
-    let draws = (0..200).map(|_| random_sound_tool(rng));
-    draws.max_by_key(|tool| tool.base.count).expect("some draws")
+/// A random sound tool with as many records and requests, some of them started, as some hundred draws give.
+fn fullest(rng: &mut Rng) -> Tool {
+    let started = |tool: &Tool| tool.queue.requests().iter().filter(|r| r.started == 1).count();
+    let draws = (0..400).map(|_| random_sound_tool(rng));
+    draws
+        .max_by_key(|tool| tool.base.count as usize + tool.queue.count as usize + 4 * started(tool))
+        .expect("some draws")
 }
 
 /// Whether a state is sound, and an input from it.

@@ -5,7 +5,7 @@ use crate::machine::Both;
 use crate::play::{Finding, Player, Tally};
 
 /// Rows that must have a name, and what each answers to one that has no record, where the other parts are good.
-const NAMED: [(u32, u32); 13] = [
+const NAMED: [(u32, u32); 14] = [
     (1, 0),
     (3, 0),
     (4, 2),
@@ -19,10 +19,11 @@ const NAMED: [(u32, u32); 13] = [
     (21, 2),
     (22, 2),
     (23, 2),
+    (29, 5),
 ];
 
 /// Rows that must have a port, and what each answers just after set-up.
-const PORTED: [(u32, u32); 15] = [
+const PORTED: [(u32, u32); 17] = [
     (1, 0),
     (7, 2),
     (9, 0),
@@ -38,6 +39,8 @@ const PORTED: [(u32, u32); 15] = [
     (24, 5),
     (25, 5),
     (26, 5),
+    (27, 5),
+    (28, 5),
 ];
 
 /// Rows that may have a port.

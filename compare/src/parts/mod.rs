@@ -7,9 +7,11 @@ pub mod maps;
 pub mod messages;
 pub mod names;
 pub mod odd;
+pub mod out;
 pub mod replies;
 pub mod runs;
 pub mod setups;
+pub mod small;
 pub mod states;
 pub mod twelve;
 pub mod waiting;
@@ -17,7 +19,8 @@ pub mod waiting;
 use independent::gen::Input;
 
 /// Numbers that are near a limit, or that one is tempted to cut short.
-pub const ODD: [u32; 12] = [0, 5, 17, 26, 27, 255, 256, 257, 1 << 16, 1 << 31, (1 << 31) - 1, u32::MAX];
+pub const ODD: [u32; 14] =
+    [0, 5, 17, 26, 27, 30, 31, 255, 256, 257, 1 << 16, 1 << 31, (1 << 31) - 1, u32::MAX];
 
 /// What a good number becomes where its high bits are lost.
 pub const LOST: [u32; 3] = [1 << 8, 1 << 16, 1 << 31];

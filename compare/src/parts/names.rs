@@ -64,7 +64,7 @@ fn bad_texts(both: &Both, tally: &mut Tally) -> Result<(), Finding> {
         &[b' '; 16],
         &[b' '; 32],
     ];
-    for row in [1, 2, 3, 4, 5, 6, 7, 8, 16, 19, 20, 21, 22, 23] {
+    for row in [1, 2, 3, 4, 5, 6, 7, 8, 16, 19, 20, 21, 22, 23, 29] {
         for text in texts.into_iter().chain([&padded(b"A", 33)[..], &padded(TOO_LONG, 20)]) {
             player.expect_look(&input(row, 1, 0, text, &[3; 25]), 1)?;
         }
@@ -105,6 +105,9 @@ fn not_looked_at(both: &Both, tally: &mut Tally) -> Result<(), Finding> {
         (24, 5),
         (25, 5),
         (26, 5),
+        (27, 5),
+        (28, 5),
+        (30, 0),
     ];
     for (row, answer) in rows {
         for text in [&b""[..], b"A ", b" ", b"A B", b"\0", &[b' '; 33], &[0xFF; 300]] {

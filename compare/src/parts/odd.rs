@@ -3,6 +3,7 @@
 
 use independent::gen::requests::random_run_input;
 use independent::gen::{Input, Rng};
+use independent::requests::INPUTS;
 
 use super::{at, input, named, LOST, ODD};
 use crate::machine::Both;
@@ -32,12 +33,12 @@ fn every_number(both: &Both, tally: &mut Tally) -> Result<(), Finding> {
     player.expect(named(3, b"A"), 0)?;
     for odd in (0..=300).chain(ODD).chain(LOST) {
         player.look(&input(odd, 1, 1, b"A", &[0; 25]))?;
-        for row in [1, 2, 5, 9, 10, 13, 16, 18] {
+        for row in [1, 2, 5, 7, 9, 10, 13, 16, 18, 27, 28] {
             player.look(&input(row, odd, 1, b"A", b""))?;
             player.look(&input(row, 1, odd, b"A", b""))?;
         }
     }
-    for row in 1..=26 {
+    for row in 1..=INPUTS {
         for high in LOST {
             player.expect_look(&input(row + high, 1, 0, b"A", &[0; 25]), 1)?;
         }
@@ -65,7 +66,7 @@ fn every_length_of_a_name(both: &Both, tally: &mut Tally, rng: &mut Rng) -> Resu
     for length in 0..=300 {
         let good: Vec<u8> = (0..length).map(|_| 0x21 + rng.below(0x5E) as u8).collect();
         player.expect_look(&named(3, &good), !(1..=16).contains(&length) as u32)?;
-        player.look(&named(1 + rng.below(26), &any_bytes(length, rng)))?;
+        player.look(&named(1 + rng.below(INPUTS), &any_bytes(length, rng)))?;
     }
     Ok(())
 }

@@ -9,12 +9,15 @@ use crate::play::{Finding, Player, Tally};
 /// Long enough to fill the tool and drain it several times, short enough that a difference is soon shrunk.
 const LONGEST: u64 = 5000;
 
+/// What a tool of sixteen places is given at least: enough to fill the buffer, and then the queue.
+const FILLING: u64 = 1500;
+
 pub fn compare(both: &Both, total: u64, rng: &mut Rng) -> Result<Tally, Finding> {
     let mut tally = Tally::default();
     let each = total.div_ceil(4 * 17);
     for ports in 1..=4 {
         for places in 0..=16 {
-            let mut left = each;
+            let mut left = if places == 16 { each.max(FILLING) } else { each };
             while left > 0 {
                 let length = left.min(LONGEST);
                 one(both, &mut tally, ports, places, length, rng)?;

@@ -31,7 +31,7 @@ fn nearly_equal_is_found() {
     });
     let numbers: Vec<u32> = run.inputs.iter().map(|input| input.number).collect();
     assert_eq!(numbers.last(), Some(&20));
-    assert!(numbers.len() <= 6, "{}", run.script());
+    assert!(numbers.len() <= 7, "{}", run.script());
     // All ones, but for the slot that differs.
     let maps: Vec<&[u8]> =
         run.inputs.iter().map(|i| &i.codes[..]).filter(|codes| !codes.is_empty()).collect();
@@ -85,7 +85,7 @@ fn a_bad_map_that_is_refused_too_late_is_found() {
             o.answer = if other > 1 { other } else { 1 };
         }
     });
-    assert!(run.inputs.len() <= 2, "{}", run.script());
+    assert!(run.inputs.len() <= 4, "{}", run.script());
 }
 
 /// A program that looks at the first 25 of more codes.

@@ -47,12 +47,14 @@ fn pick_request(t: &Tool, rng: &mut Rng, wanted: impl Fn(&Request) -> bool) -> O
 }
 
 /// Row 7 for a carrier in the buffer, whatever it does there; mostly for one that isn't asked for yet.
-/// Many ask for one port, so that requests stand behind each other.
+/// A full queue is asked for others, too. Many ask for one port, so that requests stand behind each other.
 fn ask(t: &Tool, rng: &mut Rng) -> Option<Input> {
+    let full = t.queue.requests().len() == MAX_REQUESTS;
+    let again = full || rng.chance(8);
+    let elsewhere = rng.chance(if full { 30 } else { 4 });
     let queued = |c: &Carrier| t.queue.requests().iter().any(|r| r.name == c.name);
-    let again = rng.chance(8) || t.queue.requests().len() == MAX_REQUESTS;
-    let buffered = t.base.carriers().iter().filter(|c| c.in_buffer());
-    let names: Vec<_> = buffered.filter(|c| again || !queued(c)).map(|c| c.name).collect();
+    let wanted = |c: &&Carrier| c.in_buffer() != elsewhere && (again || !queued(c));
+    let names: Vec<_> = t.base.carriers().iter().filter(wanted).map(|c| c.name).collect();
     if names.is_empty() {
         return None;
     }
