@@ -1,7 +1,8 @@
-//! Prepared states: sound tools of P = 4 and B = 16 with a given number of records, with and without expected maps, and
-//! an input for each.
+//! Prepared states: sound tools of P = 4 and B = 16 with a given number of records, with and without expected maps and
+//! requests to come out, and an input for each.
 
 use independent::gen::{padded, pool_name, shuffle, Input, Rng, POOL};
+use independent::requests::queue::Request;
 use independent::requests::{setup, sound, step, Tool};
 use independent::{accessing, movement, place, status, tag, transfer};
 use independent::{Carrier, Plain, Port, Reports, MAP_LEN, MAX_CARRIERS, NAME_LEN};
@@ -114,8 +115,35 @@ fn tool(carriers: usize, family: usize, rng: &mut Rng) -> Tool {
             tool.maps[k] = map(rng);
         }
     }
+    ask(&mut tool, rng);
     assert!(sound(&tool), "a prepared state is sound");
     tool
+}
+
+/// Requests for none, some or all carriers in the buffer, in any order; one may be started at each port that is untied,
+/// which becomes READY TO LOAD and reserved for it.
+fn ask(tool: &mut Tool, rng: &mut Rng) {
+    let mut buffered: Vec<Carrier> =
+        tool.base.carriers().iter().copied().filter(Carrier::in_buffer).collect();
+    shuffle(&mut buffered, rng);
+    let (asked, started) = (rng.pick(&[0, 50, 100]), rng.pick(&[0, 20, 100]));
+    for c in buffered {
+        if !rng.chance(asked) {
+            continue;
+        }
+        let p = rng.below(4) as usize;
+        let begun = tool.queue.requests().iter().any(|r| r.started == 1 && r.port as usize == p + 1);
+        let ready = c.open == 0 && c.accessing != accessing::IN_ACCESS;
+        let port = &mut tool.base.port[p];
+        let starts = ready && !begun && !port.tied() && rng.chance(started);
+        if starts {
+            (port.transfer, port.movement, port.pod) = (transfer::READY_TO_LOAD, movement::NONE, 0);
+            port.reserved = 1;
+        }
+        tool.queue.request[tool.queue.count as usize] =
+            Request { name: c.name, port: p as u8 + 1, started: starts as u8 };
+        tool.queue.count += 1;
+    }
 }
 
 /// A state with so many records and an input of this row; accepted, or refused, if some draws can have it so.
@@ -185,6 +213,7 @@ fn answer(tool: &Tool, i: &Input) -> u32 {
 #[cfg(test)]
 mod tests {
     use super::*;
+    use independent::requests::INPUTS;
 
     #[test]
     fn names_of_a_family_differ() {
@@ -205,6 +234,21 @@ mod tests {
         }
     }
 
+    /// No requests, some and sixteen; started ones, and more than one of them.
+    #[test]
+    fn states_have_requests() {
+        let mut rng = Rng::new(4);
+        let mut met = [0; 5];
+        for _ in 0..400 {
+            let tool = tool(28, 0, &mut rng);
+            let started = tool.queue.requests().iter().filter(|r| r.started == 1).count();
+            let count = tool.queue.count;
+            let seen = [count == 0, (1..8).contains(&count), count > 12, started == 1, started > 1];
+            met.iter_mut().zip(seen).for_each(|(met, seen)| *met += seen as u32);
+        }
+        assert!(met.iter().all(|&met| met > 5), "{met:?}");
+    }
+
     #[test]
     fn some_slot_maps_are_as_expected_and_some_are_not() {
         let mut rng = Rng::new(3);
@@ -222,8 +266,10 @@ mod tests {
     #[test]
     fn every_row_is_both_accepted_and_refused() {
         let mut rng = Rng::new(2);
-        for row in 1..=26 {
-            for wanted in [true, false] {
+        for row in 1..=INPUTS {
+            // CancelAllCarrierOut is refused by no sound tool.
+            let wanted: &[bool] = if row == 30 { &[true] } else { &[true, false] };
+            for &wanted in wanted {
                 let found = (0..10).any(|_| {
                     let (tool, input) = prepared(30, 1, row, wanted, &mut rng);
                     (answer(&tool, &input) == 0) == wanted
