@@ -83,3 +83,23 @@ fn wrong_cancels_are_found() {
         assert_eq!((row, run.inputs.len() <= 8), (last, true), "{}", run.script());
     }
 }
+
+/// A CancelCarrier that comes as a message drops the request, too.
+#[test]
+fn a_message_that_leaves_the_request_is_found() {
+    struct Leaves;
+
+    impl Wrong for Leaves {
+        fn secs(&self, tool: &mut Tool, message: &[u8], reports: &mut Reports) -> Heard {
+            let queue = tool.queue;
+            let heard = Independent.secs(tool, message, reports);
+            tool.queue = queue;
+            heard
+        }
+    }
+
+    let both = Both { proved: &Leaves, independent: &Independent };
+    let finding = messages::compare(&both, 20_000, &mut Rng::new(5)).err().expect("a finding");
+    let told = tell(&both, &finding);
+    assert!(told.contains("\nsecs ") && told.contains("requests: proved 1, independent 0"), "{told}");
+}
