@@ -6,8 +6,8 @@
  * A host's S3F17 goes to hm_secs_exchange as it came: the text is read, what it asks for is stepped, and the text of
  * S3F18, the answer to the host, is written into room that you lend. hm_secs_step is the same without the reply.
  * The rules are document 01's, with document 02's requests P1, expected maps, P3, SECS-II from the host bridge,
- * P4, names padded with blanks, P2: hm_waiting, and P13, answers to the bridge. hm_judge, P14, judges a log by
- * document 01 without any request.
+ * P4, names padded with blanks, P5, a queue for CarrierOut, P2: hm_waiting, and P13, answers to the bridge. hm_judge,
+ * P14, judges a log by document 01 without any request.
  * C99, C11 and C++17.
  * Link with libhawsermole.a; see examples/firmware.c and examples/host_bridge.c. hawsermole_words.h has words for the
  * numbers, and a carrier by its name; hawsermole_events.h SEMI E87's numbers of what a report tells.
@@ -50,18 +50,19 @@
 extern "C" {
 #endif
 
-/* The version of this header, 0x00MMmmpp: 0.8.0. hm_version is the archive's; compare the two once at start. */
-#define HM_VERSION 0x000800
+/* The version of this header, 0x00MMmmpp: 0.9.0. hm_version is the archive's; compare the two once at start. */
+#define HM_VERSION 0x000900
 
 /* Limits. */
 #define HM_PORTS 4                 /* a tool has 1 to 4 ports */
 #define HM_PLACES 16               /* and 0 to 16 buffer places; 0 means that pods open at the port */
 #define HM_EXPECTED 16             /* carriers that may be expected at once */
 #define HM_RECORDS 36              /* carrier records at once: 16 expected, 16 in the buffer, 4 at ports */
+#define HM_REQUESTS 16             /* requests of CarrierOut that may be queued at once, for all ports together */
 #define HM_SLOTS 25                /* codes of a slot map */
 #define HM_CODE_GREATEST 5         /* each code is 0 to 5 */
 #define HM_REPORTS 7               /* reports of one input */
-#define HM_INPUTS 26               /* inputs are numbered 1 to 26 */
+#define HM_INPUTS 30               /* inputs are numbered 1 to 30 */
 #define HM_NAME_BYTES 16           /* a name is 1 to 16 bytes, */
 #define HM_NAME_BYTE_LEAST 0x21    /* each from 0x21 */
 #define HM_NAME_BYTE_GREATEST 0x7E /* to 0x7E */
@@ -70,7 +71,7 @@ extern "C" {
 #define HM_SECS_ITEMS 128          /* items of a message */
 #define HM_SECS_DEPTH 6            /* lists of a message, one in another, the outermost at one */
 #define HM_REPLY_ROOM 95           /* bytes of room that every reply fits into: 15 and a text of at most 80 */
-#define HM_SPARE_BYTES 991         /* bytes of a tool that hold nothing yet */
+#define HM_SPARE_BYTES 702         /* bytes of a tool that hold nothing yet */
 #define HM_TOOL_BYTES 3782
 #define HM_TOOL_01_BYTES 1891      /* the first of them: document 01's tool, without the requests */
 #define HM_REPORTS_BYTES 141
@@ -88,51 +89,65 @@ extern "C" {
 #define HM_NOTHING ((const uint8_t *)"")
 #endif
 
-/* The inputs, and the parts that each one reads; other parts are ignored. */
+/*
+ * The inputs, and the parts that each one reads; other parts are ignored.
+ * A carrier leaves the buffer in three steps. HM_INPUT_CARRIER_OUT queues a request, which may be sent while the port
+ * is busy; HM_INPUT_OUT_START starts the oldest one for a port whose carrier is closed and not IN ACCESS, and reserves
+ * the port; HM_INPUT_OUT_DONE puts the carrier on the port. From OUT_START to OUT_DONE the carrier keeps its buffer
+ * place and isn't opened, and the port is kept for it: no other pod is loaded there. Nothing but OUT_DONE ends a
+ * request that is started.
+ */
 enum hm_input {
     HM_INPUT_BIND = 1,                         /* port, name, codes: the expected map, or none */
     HM_INPUT_CANCEL_BIND = 2,                  /* port or 0, name or none; not both missing */
     HM_INPUT_CARRIER_NOTIFICATION = 3,         /* name, codes: the expected map, or none */
     HM_INPUT_CANCEL_CARRIER_NOTIFICATION = 4,  /* name */
     HM_INPUT_PROCEED_WITH_CARRIER = 5,         /* name, port or 0 */
-    HM_INPUT_CANCEL_CARRIER = 6,               /* name, port or 0; shut an open pod first: its record is at once */
-    HM_INPUT_CARRIER_OUT = 7,                  /* name, port */
+    HM_INPUT_CANCEL_CARRIER = 6,               /* name, port or 0; shut an open pod first: its record is at once.
+                                                  Drops the carrier's request, unless that is started */
+    HM_INPUT_CARRIER_OUT = 7,                  /* name, port: queues a request, and moves nothing */
     HM_INPUT_CARRIER_IN = 8,                   /* name */
     HM_INPUT_CHANGE_ACCESS = 9,                /* port, value: HM_ACCESS_MANUAL or HM_ACCESS_AUTO */
     HM_INPUT_CHANGE_SERVICE_STATUS = 10,       /* port, value: HM_SERVICE_OUT or HM_SERVICE_IN */
     HM_INPUT_RESERVE_AT_PORT = 11,             /* port */
-    HM_INPUT_CANCEL_RESERVATION_AT_PORT = 12,  /* port */
-    HM_INPUT_LOAD_START = 13,                  /* port */
+    HM_INPUT_CANCEL_RESERVATION_AT_PORT = 12,  /* port; 4 where a request is started to it */
+    HM_INPUT_LOAD_START = 13,                  /* port; 4 where a request is started to it */
     HM_INPUT_LOAD_DONE = 14,                   /* port */
     HM_INPUT_LOAD_FAIL = 15,                   /* port */
     HM_INPUT_ID_READ = 16,                     /* port, name */
     HM_INPUT_ID_READ_FAILED = 17,              /* port */
     HM_INPUT_MOVE_IN = 18,                     /* port, value: a buffer place from 1 */
-    HM_INPUT_OPEN = 19,                        /* name */
+    HM_INPUT_OPEN = 19,                        /* name; 5 where its request is started */
     HM_INPUT_SLOT_MAP = 20,                    /* name, codes: equal to the expected map, OK without the host */
     HM_INPUT_ACCESS_START = 21,                /* name */
     HM_INPUT_ACCESS_END = 22,                  /* name, value: HM_ACCESS_END_COMPLETE or _STOPPED */
     HM_INPUT_CLOSE = 23,                       /* name */
     HM_INPUT_UNLOAD_START = 24,                /* port */
     HM_INPUT_UNLOAD_DONE = 25,                 /* port */
-    HM_INPUT_UNLOAD_FAIL = 26                  /* port */
+    HM_INPUT_UNLOAD_FAIL = 26,                 /* port */
+    HM_INPUT_OUT_START = 27,                   /* port: starts the oldest request that is ready for it */
+    HM_INPUT_OUT_DONE = 28,                    /* port: the carrier of the request started to it stands there */
+    HM_INPUT_CANCEL_CARRIER_OUT = 29,          /* name: drops its request; 5 where that is started */
+    HM_INPUT_CANCEL_ALL_CARRIER_OUT = 30       /* nothing: drops all requests that aren't started, also none */
 };
 
 /*
- * The answers of hm_step: accepted, or the lowest refusal, 1 to 8, that applies. hm_setup answers 0 or 1. The last
+ * The answers of hm_step: accepted, or the lowest refusal, 1 to 10, that applies. hm_setup answers 0 or 1. The last
  * one is of the functions that write a reply, hm_reply and hm_secs_exchange, alone.
  */
 enum hm_answer {
     HM_ACCEPTED = 0,
     HM_REFUSED_OUT_OF_RANGE = 1,          /* a port, place, value or name is outside its range, the input number
-                                             isn't 1 to 26, or the tool isn't sound: hm_sound tells which */
+                                             isn't 1 to 30, or the tool isn't sound: hm_sound tells which */
     HM_REFUSED_NO_RECORD = 2,             /* the name has no record */
     HM_REFUSED_NAME_TAKEN = 3,            /* the name is taken */
-    HM_REFUSED_RESERVED_OR_TIED = 4,      /* the port is reserved or tied */
+    HM_REFUSED_RESERVED_OR_TIED = 4,      /* the port is reserved or tied, or a request is started to it */
     HM_REFUSED_CONDITIONS = 5,            /* the row's conditions on state don't hold */
     HM_REFUSED_EXPECTED_FULL = 6,         /* 16 carriers are expected already */
     HM_REFUSED_NOT_VERIFIED = 7,          /* not verified */
     HM_REFUSED_PLACE_OR_OPENER_TAKEN = 8, /* the buffer place is taken, or the opener is in use */
+    HM_REFUSED_QUEUE_FULL = 9,            /* 16 requests of CarrierOut are queued already, this one perhaps too */
+    HM_REFUSED_QUEUED_ALREADY = 10,       /* this carrier's CarrierOut is queued already, to whatever port */
     HM_REFUSED_ROOM_TOO_SMALL = 14        /* the reply is longer than the room lent for it: nothing was written */
 };
 
@@ -188,6 +203,9 @@ enum hm_reservation { HM_NOT_RESERVED = 0, HM_RESERVED = 1 };
 enum hm_tie { HM_NOT_TIED = 0, HM_TIED = 1 };
 
 enum hm_movement { HM_MOVEMENT_NONE = 0, HM_MOVEMENT_LOADING = 1, HM_MOVEMENT_UNLOADING = 2 };
+
+/* Of a request of CarrierOut. */
+enum hm_started { HM_NOT_STARTED = 0, HM_STARTED = 1 };
 
 enum hm_pod { HM_NO_POD = 0, HM_POD_PRESENT = 1 };
 
@@ -258,6 +276,13 @@ typedef struct hm_carrier {
     uint8_t accessing;           /* enum hm_accessing */
 } hm_carrier;
 
+/* A request of CarrierOut. */
+typedef struct hm_request {
+    uint8_t name[HM_NAME_BYTES]; /* the carrier, which is in the buffer */
+    uint8_t port;                /* the port from 1 that it goes to */
+    uint8_t started;             /* enum hm_started */
+} hm_request;
+
 /* Read it as you like; change it through hm_step alone. Port number N is ports[N - 1]. */
 typedef struct hm_tool {
     uint8_t used;                                /* ports of this tool */
@@ -266,6 +291,8 @@ typedef struct hm_tool {
     hm_port ports[HM_PORTS];                     /* all zero past used */
     hm_carrier carriers[HM_RECORDS];             /* all zero past count */
     uint8_t expected_maps[HM_RECORDS][HM_SLOTS]; /* of the carrier with the same index; all zero: none */
+    uint8_t queued;                              /* requests of CarrierOut in the queue */
+    hm_request queue[HM_REQUESTS];               /* the oldest first; all zero past queued */
     uint8_t spare[HM_SPARE_BYTES];               /* all zero */
 } hm_tool;
 
@@ -387,11 +414,12 @@ uint32_t hm_waiting(const hm_carrier *carriers, uint64_t count, hm_found *found)
 
 /*
  * Judges the log of another maker's tool by document 01, as it stands before any request: no expected map, no blank at
- * the end of a name. The log: the mark CMT; a version of two bytes, the high one first: 1; P and B; then entries. Every
- * other number is one byte. An entry is input number, port, second number, name length, name, 25 codes for input 20
- * only, answer, report count, reports; a report is model, subject (for models 5 to 7 name length and name, for every
- * other number a port), old, new. Answers by enum hm_verdict, the first that is met in the order of the file; an entry
- * is read to its end before it is judged, and nothing is read after one that disagrees.
+ * the end of a name, and no queue: CarrierOut moves the carrier at once, and inputs are 1 to 26. The log: the mark CMT;
+ * a version of two bytes, the high one first: 1; P and B; then entries. Every other number is one byte. An entry is
+ * input number, port, second number, name length, name, 25 codes for input 20 only, answer, report count, reports; a
+ * report is model, subject (for models 5 to 7 name length and name, for every other number a port), old, new. Answers
+ * by enum hm_verdict, the first that is met in the order of the file; an entry is read to its end before it is judged,
+ * and nothing is read after one that disagrees.
  * What tool, reports and judged held before is gone. The tool is document 01's after the last input that it was given,
  * the reports are that input's, and judged->answer its answer: for HM_LOG_ENTRY_DISAGREES what the entry should show.
  * All zero where the head is refused. A log of any length is read once, where it stands, and no byte outside it.
@@ -442,6 +470,11 @@ HM_AT(hm_carrier, id, 47);
 HM_AT(hm_carrier, slot, 48);
 HM_AT(hm_carrier, accessing, 49);
 
+HM_HOLDS(hm_request_size, sizeof(hm_request) == 18);
+HM_AT(hm_request, name, 0);
+HM_AT(hm_request, port, 16);
+HM_AT(hm_request, started, 17);
+
 HM_HOLDS(hm_found_size, sizeof(hm_found) == 16);
 HM_AT(hm_found, position, 0);
 HM_AT(hm_found, read, 8);
@@ -453,7 +486,9 @@ HM_AT(hm_tool, count, 2);
 HM_AT(hm_tool, ports, 3);
 HM_AT(hm_tool, carriers, 91);
 HM_AT(hm_tool, expected_maps, 1891);
-HM_AT(hm_tool, spare, 2791);
+HM_AT(hm_tool, queued, 2791);
+HM_AT(hm_tool, queue, 2792);
+HM_AT(hm_tool, spare, 3080);
 
 HM_HOLDS(hm_tool_01_size, sizeof(hm_tool_01) == HM_TOOL_01_BYTES);
 HM_AT(hm_tool_01, used, 0);

@@ -20,7 +20,7 @@ static inline const char *hm_answer_text(uint32_t answer)
 {
     static const char *const of_tool[] = {
         "accepted",
-        "a port, place, value or name is outside its range, the input number isn't 1 to 26, or the state isn't sound",
+        "a port, place, value or name is outside its range, the input number isn't 1 to 30, or the state isn't sound",
         "the name has no record",
         "the name is taken",
         "the port is reserved or tied",
@@ -28,6 +28,8 @@ static inline const char *hm_answer_text(uint32_t answer)
         "16 carriers are expected already",
         "not verified",
         "the buffer place is taken, or the opener is in use",
+        "the queue for CarrierOut is full",
+        "CarrierOut is queued already",
     };
     static const char *const of_message[] = {
         "the message is cut short",
@@ -61,7 +63,8 @@ static inline const char *hm_input_text(uint32_t number)
         "Bind", "CancelBind", "CarrierNotification", "CancelCarrierNotification", "ProceedWithCarrier",
         "CancelCarrier", "CarrierOut", "CarrierIn", "ChangeAccess", "ChangeServiceStatus", "ReserveAtPort",
         "CancelReservationAtPort", "LoadStart", "LoadDone", "LoadFail", "IdRead", "IdReadFailed", "MoveIn", "Open",
-        "SlotMap", "AccessStart", "AccessEnd", "Close", "UnloadStart", "UnloadDone", "UnloadFail",
+        "SlotMap", "AccessStart", "AccessEnd", "Close", "UnloadStart", "UnloadDone", "UnloadFail", "OutStart",
+        "OutDone", "CancelCarrierOut", "CancelAllCarrierOut",
     };
     return HM_WORD(names, number - 1);
 }
@@ -105,7 +108,7 @@ static inline const char *hm_state_text(uint32_t model, uint32_t state)
     }
 }
 
-/* What no report shows: enum hm_movement, hm_tag, hm_place; and a code of a slot map, enum hm_code. */
+/* What no report shows: enum hm_movement, hm_tag, hm_place, hm_started; and a code of a slot map, enum hm_code. */
 static inline const char *hm_movement_text(uint32_t movement)
 {
     static const char *const words[] = {"idle", "loading", "unloading"};
@@ -122,6 +125,12 @@ static inline const char *hm_place_text(uint32_t place)
 {
     static const char *const words[] = {"expected", "at a port", "in the buffer"};
     return HM_WORD(words, place);
+}
+
+static inline const char *hm_started_text(uint32_t started)
+{
+    static const char *const words[] = {"queued", "started"};
+    return HM_WORD(words, started);
 }
 
 static inline const char *hm_code_text(uint32_t code)

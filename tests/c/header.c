@@ -1,16 +1,18 @@
-/* The header by its names, as C99, C11 and C++17: document 01's numbers, and all 26 inputs played by name. */
+/* The header by its names, as C99, C11 and C++17: the documents' numbers, and all inputs played by name. */
 #include "check.h"
 
-/* A run can't tell these numbers from each other or doesn't reach them, so they are held against document 01 here. */
+/* A run can't tell these numbers from each other or doesn't reach them, so they are held against the documents here. */
 HM_HOLDS(limits_of_a_tool, HM_PORTS == 4 && HM_PLACES == 16 && HM_EXPECTED == 16 && HM_RECORDS == 36);
-HM_HOLDS(limits_of_an_input, HM_INPUTS == 26 && HM_SLOTS == 25 && HM_REPORTS == 7 && HM_NAME_BYTES == 16);
+HM_HOLDS(limits_of_an_input, HM_INPUTS == 30 && HM_SLOTS == 25 && HM_REPORTS == 7 && HM_NAME_BYTES == 16);
 HM_HOLDS(records_at_once, HM_RECORDS == HM_EXPECTED + HM_PLACES + HM_PORTS);
 HM_HOLDS(bytes_of_a_name, HM_NAME_BYTE_LEAST == 0x21 && HM_NAME_BYTE_GREATEST == 0x7E);
 HM_HOLDS(bytes_of_a_text, HM_TEXT_BYTES == 32 && HM_BLANK == 0x20 && HM_BLANK < HM_NAME_BYTE_LEAST);
 HM_HOLDS(models_of_ports, HM_MODEL_TRANSFER == 1 && HM_MODEL_ACCESS == 2 && HM_MODEL_RESERVATION == 3);
 HM_HOLDS(last_model_of_ports, HM_MODEL_TIE == 4);
 HM_HOLDS(models_of_carriers, HM_MODEL_ID == 5 && HM_MODEL_SLOT == 6 && HM_MODEL_ACCESSING == 7);
-HM_HOLDS(ends, HM_INPUT_BIND == 1 && HM_INPUT_UNLOAD_FAIL == HM_INPUTS && HM_REFUSED_PLACE_OR_OPENER_TAKEN == 8);
+HM_HOLDS(ends, HM_INPUT_BIND == 1 && HM_INPUT_UNLOAD_FAIL == 26 && HM_REFUSED_PLACE_OR_OPENER_TAKEN == 8);
+HM_HOLDS(inputs_of_the_queue, HM_INPUT_OUT_START == 27 && HM_INPUT_CANCEL_ALL_CARRIER_OUT == HM_INPUTS);
+HM_HOLDS(the_queue, HM_REQUESTS == 16 && HM_REFUSED_QUEUE_FULL == 9 && HM_REFUSED_QUEUED_ALREADY == 10);
 HM_HOLDS(codes, HM_CODE_UNDEFINED == 0 && HM_CODE_EMPTY == 1 && HM_CODE_NOT_EMPTY == 2);
 HM_HOLDS(more_codes, HM_CODE_CORRECTLY_OCCUPIED == 3 && HM_CODE_DOUBLE_SLOTTED == 4 && HM_CODE_CROSS_SLOTTED == 5);
 HM_HOLDS(greatest_code, HM_CODE_CROSS_SLOTTED == HM_CODE_GREATEST);
@@ -22,7 +24,8 @@ HM_HOLDS(a_reply, HM_REPLY_ROOM == 15 + 80 && HM_REFUSED_ROOM_TOO_SMALL == 14);
 HM_HOLDS(refusals_of_a_log, HM_REFUSED_MARK_OR_VERSION == 27 && HM_REFUSED_SET_UP == 28);
 HM_HOLDS(verdicts, HM_LOG_AGREES == 0 && HM_LOG_ENTRY_DISAGREES == 1 && HM_REFUSED_LOG_CUT_SHORT == 29);
 HM_HOLDS(bytes_of_document_01, HM_TOOL_01_BYTES == 1891);
-HM_HOLDS(bytes_of_a_tool, HM_TOOL_BYTES == 2 * 1891 && HM_SPARE_BYTES == 1891 - HM_RECORDS * HM_SLOTS);
+HM_HOLDS(bytes_of_a_tool, HM_TOOL_BYTES == 2 * 1891);
+HM_HOLDS(bytes_to_spare, HM_SPARE_BYTES == 1891 - HM_RECORDS * HM_SLOTS - 1 - HM_REQUESTS * sizeof(hm_request));
 
 static hm_tool tool;
 static hm_reports reports;
@@ -115,7 +118,18 @@ static void a_pod_is_worked_on(uint32_t end, uint8_t ended)
 static void a_pod_goes_out(void)
 {
     ACCEPTED(HM_INPUT_CARRIER_OUT, 1, 0, "A");
-    CHECK(one->transfer == HM_TRANSFER_READY_TO_UNLOAD && first->came_out == 1);
+    CHECK(tool.queued == 1 && is_name(tool.queue[0].name, "A") && tool.queue[0].started == HM_NOT_STARTED);
+    ACCEPTED(HM_INPUT_CANCEL_CARRIER_OUT, 0, 0, "A");
+    CHECK(tool.queued == 0);
+    ACCEPTED(HM_INPUT_CARRIER_OUT, 2, 0, "A");
+    ACCEPTED(HM_INPUT_CANCEL_ALL_CARRIER_OUT, 0, 0, "");
+    CHECK(tool.queued == 0);
+    ACCEPTED(HM_INPUT_CARRIER_OUT, 1, 0, "A");
+    CHECK(GIVE(HM_INPUT_CARRIER_OUT, 2, 0, "A") == HM_REFUSED_QUEUED_ALREADY && tool.queue[0].port == 1);
+    ACCEPTED(HM_INPUT_OUT_START, 1, 0, "");
+    CHECK(tool.queue[0].started == HM_STARTED && one->reserved == HM_RESERVED && first->place == HM_PLACE_BUFFER);
+    ACCEPTED(HM_INPUT_OUT_DONE, 1, 0, "");
+    CHECK(tool.queued == 0 && one->transfer == HM_TRANSFER_READY_TO_UNLOAD && first->came_out == 1);
     ACCEPTED(HM_INPUT_CARRIER_IN, 0, 0, "A");
     CHECK(one->transfer == HM_TRANSFER_BLOCKED && first->came_out == 0);
     ACCEPTED(HM_INPUT_CANCEL_CARRIER, 1, 0, "A");
