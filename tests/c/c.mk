@@ -7,7 +7,7 @@ SANITIZED = gcc -std=c99 $(CFLAGS_C) $(SANITIZE)
 
 SANITIZED_PROGRAMS = firmware host_bridge names secs reply waiting judge callers
 C_PROGRAMS = header-c99 header-c11 header-c++17 words-c99 words-c11 words-c++17 events-c99 events-c11 events-c++17 \
-	twelve maps names secs reply waiting judge firmware host_bridge callers stack
+	twelve maps queue names secs reply waiting judge firmware host_bridge callers stack
 
 c: cross $(C_PROGRAMS:%=target/c/%)
 	CC="$(CC)" tests/c/archive.sh $(ARCHIVE)
@@ -21,6 +21,7 @@ c: cross $(C_PROGRAMS:%=target/c/%)
 	$(EMULATOR) target/c/events-c++17 docs/events.tsv
 	$(EMULATOR) target/c/twelve
 	$(EMULATOR) target/c/maps
+	$(EMULATOR) target/c/queue
 	$(EMULATOR) target/c/names
 	$(EMULATOR) target/c/secs
 	$(EMULATOR) target/c/reply
@@ -57,7 +58,7 @@ target/c/%-c++17: tests/c/%.c $(C_FILES)
 	mkdir -p target/c
 	$(CXX) -std=c++17 $(CXXFLAGS_C) -x c++ $< -x none $(ARCHIVE) -o $@
 
-target/c/twelve target/c/maps target/c/names target/c/secs target/c/reply target/c/waiting \
+target/c/twelve target/c/maps target/c/queue target/c/names target/c/secs target/c/reply target/c/waiting \
 		target/c/judge target/c/callers \
 		target/c/stack: target/c/%: tests/c/%.c $(C_FILES)
 	mkdir -p target/c
