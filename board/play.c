@@ -32,7 +32,7 @@ static uint32_t answer, items, ports, places;
 static uint64_t stopped;
 
 static struct digest given, answered, reported, held;
-static uint32_t inputs, messages, set_ups, damaged_tools, unsound_tools, most_records, paint_every = 1;
+static uint32_t inputs, messages, set_ups, damaged_tools, unsound_tools, most_records, most_requests, paint_every = 1;
 static uint32_t answers[HM_REFUSED_SHAPE_OR_ACTION + 1], accepted_rows[HM_INPUTS + 1];
 
 /* A caller for each function, so that its instructions and its stack can be told from all others. */
@@ -106,6 +106,7 @@ static void note(void)
 {
     answers[answer <= HM_REFUSED_SHAPE_OR_ACTION ? answer : HM_REFUSED_OUT_OF_RANGE]++;
     most_records = answer == HM_ACCEPTED && tool.count > most_records ? tool.count : most_records;
+    most_requests = answer == HM_ACCEPTED && tool.queued > most_requests ? tool.queued : most_requests;
     if (BROKEN_AT != 0 && inputs == BROKEN_AT) {
         reports.items[0].new_state ^= 1;
     }
@@ -251,7 +252,7 @@ static int print_answers(void)
     uint32_t i, all = 1;
 
     for (i = 0; i <= HM_REFUSED_SHAPE_OR_ACTION; i++) {
-        if (i <= HM_REFUSED_PLACE_OR_OPENER_TAKEN || i >= HM_REFUSED_CUT_SHORT) {
+        if (i <= HM_REFUSED_QUEUED_ALREADY || i >= HM_REFUSED_CUT_SHORT) {
             put_words(i == 0 ? "answers " : ", ");
             put_number(i);
             put_words(": ");
@@ -266,7 +267,8 @@ static int print_answers(void)
 /* What was met; 0 where it is too little for the digests to mean anything. */
 static int met_enough(void)
 {
-    int enough = print_answers() && unsound_tools > 0 && damaged_tools > 0 && most_records == HM_RECORDS;
+    int enough = print_answers() && unsound_tools > 0 && damaged_tools > 0 && most_records == HM_RECORDS &&
+                 most_requests == HM_REQUESTS;
     uint32_t i;
 
     for (i = 1; i <= HM_INPUTS; i++) {
@@ -277,6 +279,8 @@ static int met_enough(void)
     put_number(damaged_tools);
     put_words(" damaged tools, most records ");
     put_number(most_records);
+    put_words(", most requests ");
+    put_number(most_requests);
     put_words(enough ? ", every row accepted and every answer met" : ", too little was met");
     end_line();
     return enough;

@@ -13,9 +13,9 @@
 
 static struct room tool_room, reports_room, name_room, codes_room;
 static unsigned long inputs, seed, at, failures, set_ups, unsound_tools, damaged_tools, slot_maps[HM_STATUS_FAILED + 1];
-static unsigned long answers[HM_REFUSED_PLACE_OR_OPENER_TAKEN + 1], accepted_rows[HM_INPUTS + 1];
+static unsigned long answers[HM_REFUSED_QUEUED_ALREADY + 1], accepted_rows[HM_INPUTS + 1];
 static unsigned long accepted_padded, refused_texts;
-static unsigned most_records;
+static unsigned most_records, most_requests;
 
 struct outcome {
     uint32_t sound_before, name_bytes, answer, sound_after;
@@ -125,11 +125,12 @@ static void judge_slot_map(const hm_tool *before, const struct input *in, const 
     slot_maps[expected]++;
 }
 
-/* Document 01's rows with a name; in CancelBind it may be missing. */
+/* The rows with a name; in CancelBind it may be missing. */
 static int needs_name(const struct input *in)
 {
     int takes = (in->number >= HM_INPUT_BIND && in->number <= HM_INPUT_CARRIER_IN) || in->number == HM_INPUT_ID_READ ||
-                (in->number >= HM_INPUT_OPEN && in->number <= HM_INPUT_CLOSE);
+                (in->number >= HM_INPUT_OPEN && in->number <= HM_INPUT_CLOSE) ||
+                in->number == HM_INPUT_CANCEL_CARRIER_OUT;
     return takes && !(in->number == HM_INPUT_CANCEL_BIND && in->name_length == 0);
 }
 
@@ -146,10 +147,31 @@ static void judge_name(const struct input *in, const struct outcome *out)
     accepted_padded += needs_name(in) && out->answer == HM_ACCEPTED && out->name_bytes < in->name_length;
 }
 
+/* Only these inputs change the queue: CarrierOut adds one, OutStart changes one, and the others take some out. */
+static void judge_queue(const hm_tool *before, const struct input *in, const hm_tool *after)
+{
+    const int added = after->queued - before->queued;
+    const int same = memcmp(before->queue, after->queue, sizeof after->queue) == 0 && added == 0;
+    int good = same;
+
+    switch (in->number) {
+    case HM_INPUT_CARRIER_OUT: good = added == 1; break;
+    case HM_INPUT_OUT_START: good = added == 0 && !same; break;
+    case HM_INPUT_OUT_DONE:
+    case HM_INPUT_CANCEL_CARRIER_OUT: good = added == -1; break;
+    case HM_INPUT_CANCEL_CARRIER: good = same || added == -1; break;
+    case HM_INPUT_CANCEL_ALL_CARRIER_OUT: good = same || added < 0; break;
+    default: break;
+    }
+    if (!good) {
+        wrong(in, "a queue that this input doesn't leave");
+    }
+}
+
 static void judge(const hm_tool *before, const struct input *in, const struct outcome *out)
 {
-    if (out->answer > HM_REFUSED_PLACE_OR_OPENER_TAKEN || out->sound_before > 1) {
-        wrong(in, "an answer that document 01 doesn't have");
+    if (out->answer > HM_REFUSED_QUEUED_ALREADY || out->sound_before > 1) {
+        wrong(in, "an answer that the documents don't have");
         return;
     }
     if (!out->kept) {
@@ -164,6 +186,7 @@ static void judge(const hm_tool *before, const struct input *in, const struct ou
             wrong(in, "accepted, and the tool isn't sound");
         }
         judge_reports(in, &out->reports, out->tool.used);
+        judge_queue(before, in, &out->tool);
         if (in->number == HM_INPUT_SLOT_MAP) {
             judge_slot_map(before, in, out);
         }
@@ -182,11 +205,12 @@ static void judge(const hm_tool *before, const struct input *in, const struct ou
 
 static void count(const struct input *in, const struct outcome *out)
 {
-    answers[out->answer <= HM_REFUSED_PLACE_OR_OPENER_TAKEN ? out->answer : 1]++;
+    answers[out->answer <= HM_REFUSED_QUEUED_ALREADY ? out->answer : 1]++;
     unsound_tools += out->sound_before == 0;
     if (out->answer == HM_ACCEPTED && in->number <= HM_INPUTS) {
         accepted_rows[in->number]++;
         most_records = out->tool.count > most_records ? out->tool.count : most_records;
+        most_requests = out->tool.queued > most_requests ? out->tool.queued : most_requests;
     }
 }
 
@@ -207,20 +231,58 @@ static void once_more(const hm_tool *tool, const struct input *in, const struct 
     }
 }
 
-/* One input to this tool, which becomes the one that follows; now and then given twice, which must not matter. */
+/* This input to this tool, which becomes the one that follows; now and then given twice, which must not matter. */
+static void give(hm_tool *tool, const struct input *in)
+{
+    struct outcome out = call(tool, in, (enum placing)below(PLACINGS));
+
+    judge(tool, in, &out);
+    count(in, &out);
+    if (below(8) == 0) {
+        once_more(tool, in, &out);
+    }
+    *tool = out.tool;
+}
+
 static void one_input(hm_tool *tool)
 {
     struct input in;
-    struct outcome out;
 
     next_input(&in, tool);
-    out = call(tool, &in, (enum placing)below(PLACINGS));
-    judge(tool, &in, &out);
-    count(&in, &out);
-    if (below(8) == 0) {
-        once_more(tool, &in, &out);
+    give(tool, &in);
+}
+
+/* An input of a tool that fills, with a name of its own for each place. */
+static void plain_input(hm_tool *tool, uint32_t number, uint32_t port, uint32_t place)
+{
+    struct input in;
+
+    memset(&in, 0, sizeof in);
+    in.number = number;
+    in.port = port;
+    in.value = place;
+    in.name_length = 1;
+    in.name[0] = (uint8_t)('a' + place);
+    at++;
+    give(tool, &in);
+}
+
+/* A full buffer, and a full queue, to which one more request is sent: by chance runs hardly come here. */
+static void fill_queue(hm_tool *tool)
+{
+    uint32_t place, port;
+
+    hm_setup(tool, 1 + below(HM_PORTS), HM_PLACES);
+    for (place = 1; place <= HM_PLACES; place++) {
+        port = 1 + place % tool->used;
+        plain_input(tool, HM_INPUT_LOAD_START, port, place);
+        plain_input(tool, HM_INPUT_LOAD_DONE, port, place);
+        plain_input(tool, HM_INPUT_ID_READ, port, place);
+        plain_input(tool, HM_INPUT_PROCEED_WITH_CARRIER, port, place);
+        plain_input(tool, HM_INPUT_MOVE_IN, port, place);
+        plain_input(tool, HM_INPUT_CARRIER_OUT, port, place);
     }
-    *tool = out.tool;
+    plain_input(tool, HM_INPUT_CARRIER_OUT, 1, 1);
 }
 
 /* A set-up of any size; out of range it must leave all zeros. */
@@ -274,21 +336,23 @@ static void summary(void)
 
     printf("callers: %lu inputs of seed %lu, %lu set-ups, %lu damaged tools, %lu inputs to a tool that isn't sound\n",
            at, seed, set_ups, damaged_tools, unsound_tools);
-    for (i = 0; i <= HM_REFUSED_PLACE_OR_OPENER_TAKEN; i++) {
+    for (i = 0; i <= HM_REFUSED_QUEUED_ALREADY; i++) {
         printf("%s%u: %lu", i == 0 ? "answers " : ", ", i, answers[i]);
         met += answers[i] > 0;
     }
     for (i = 1; i <= HM_INPUTS; i++) {
         rows += accepted_rows[i] > 0;
     }
-    printf("\nrows accepted %u of %u, most records %u, ", rows, HM_INPUTS, most_records);
+    printf("\nrows accepted %u of %u, most records %u, most requests %u, ", rows, HM_INPUTS, most_records,
+           most_requests);
     printf("slot maps OK at once %lu, for the host %lu, ", slot_maps[HM_STATUS_OK],
            slot_maps[HM_STATUS_WAITING_FOR_HOST]);
     printf("padded names accepted %lu, texts that are no name %lu, %lu failed\n", accepted_padded, refused_texts,
            failures);
-    if (inputs >= ENOUGH && (rows < HM_INPUTS || met <= HM_REFUSED_PLACE_OR_OPENER_TAKEN || unsound_tools == 0 ||
-                             slot_maps[HM_STATUS_OK] == 0 || slot_maps[HM_STATUS_WAITING_FOR_HOST] == 0 ||
-                             accepted_padded == 0 || refused_texts == 0)) {
+    if (inputs >= ENOUGH && (rows < HM_INPUTS || met <= HM_REFUSED_QUEUED_ALREADY || unsound_tools == 0 ||
+                             most_requests < HM_REQUESTS || slot_maps[HM_STATUS_OK] == 0 ||
+                             slot_maps[HM_STATUS_WAITING_FOR_HOST] == 0 || accepted_padded == 0 ||
+                             refused_texts == 0)) {
         fprintf(stderr, "too little was met for this to mean anything\n");
         failures++;
     }
@@ -312,6 +376,8 @@ int main(int argc, char **argv)
     while (at < inputs) {
         if (set_ups == 0 || below(500) == 0) {
             set_up(&tool);
+        } else if (below(2000) == 0) {
+            fill_queue(&tool);
         } else if (below(20) == 0) {
             damaged(&tool);
         } else {

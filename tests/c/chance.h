@@ -21,7 +21,7 @@ static int filling; /* for a while the host announces carriers and cancels none,
 
 static uint32_t odd_number(void)
 {
-    static const uint32_t odd[] = {0, 5, 17, 27, 255, 256, 257, 65537, 0x80000000u, 0x80000001u, 0xFFFFFFFFu};
+    static const uint32_t odd[] = {0, 5, 17, 31, 255, 256, 257, 65537, 0x80000000u, 0x80000001u, 0xFFFFFFFFu};
     return odd[below(sizeof odd / sizeof odd[0])];
 }
 
@@ -145,7 +145,8 @@ static void one_odd_part(struct input *in)
 /* What a port of this state may be waiting for. */
 static uint32_t number_for_port(const hm_port *port)
 {
-    static const uint8_t ready[] = {1, 2, 7, 9, 10, 11, 12, 13, 13, 13, 13, 13};
+    static const uint8_t ready[] = {1, 2, 7, 9, 10, 11, 12, 13, 13, 13, 13, 13, 27, 27, 27, 27};
+    static const uint8_t reserved[] = {2, 9, 12, 13, 13, 13, 27, 28, 28, 28, 28};
     static const uint8_t loading[] = {14, 14, 14, 15};
     static const uint8_t unloading[] = {25, 25, 25, 26};
     static const uint8_t unread[] = {2, 9, 16, 16, 16, 16, 17};
@@ -158,7 +159,8 @@ static uint32_t number_for_port(const hm_port *port)
         return unloading[below(sizeof unloading)];
     }
     switch (port->transfer) {
-    case HM_TRANSFER_READY_TO_LOAD: return ready[below(sizeof ready)];
+    case HM_TRANSFER_READY_TO_LOAD:
+        return port->reserved ? reserved[below(sizeof reserved)] : ready[below(sizeof ready)];
     case HM_TRANSFER_BLOCKED:
         return port->tag == HM_TAG_UNREAD ? unread[below(sizeof unread)] : blocked[below(sizeof blocked)];
     case HM_TRANSFER_READY_TO_UNLOAD: return leaving[below(sizeof leaving)];
@@ -181,7 +183,10 @@ static uint32_t number_for_carrier(const hm_carrier *carrier)
     if (carrier->accessing == HM_ACCESSING_NOT_ACCESSED && !carrier->cancelled && below(4)) {
         return HM_INPUT_OPEN;
     }
-    return carrier->place == HM_PLACE_BUFFER ? HM_INPUT_CARRIER_OUT : HM_INPUT_CARRIER_IN;
+    if (carrier->place == HM_PLACE_BUFFER) {
+        return below(8) ? HM_INPUT_CARRIER_OUT : HM_INPUT_CANCEL_CARRIER_OUT;
+    }
+    return HM_INPUT_CARRIER_IN;
 }
 
 /* An input that a carrier or a port of this tool may be waiting for, and some that none waits for. */
@@ -239,9 +244,9 @@ static inline void damage(hm_tool *tool)
         memset(tool, (int)below(256), sizeof *tool);
     }
     while (changes-- > 0) {
-        uint32_t part = below(4);
-        uint32_t where = part < 2 ? below(sizeof *tool) : below(300);
-        where += part == 3 ? (uint32_t)offsetof(hm_tool, expected_maps) : 0;
+        static const uint32_t starts[] = {0, 0, 0, offsetof(hm_tool, expected_maps), offsetof(hm_tool, queued)};
+        uint32_t part = below(5);
+        uint32_t where = starts[part] + below(part < 2 ? sizeof *tool : part == 4 ? 60 : 300);
         ((uint8_t *)tool)[where] = (uint8_t)(below(2) ? draw() : below(6));
     }
 }

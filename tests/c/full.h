@@ -47,9 +47,20 @@ static void fill(void)
     }
 }
 
-/* From the full tool: at the last port stands a pod that is bound and not yet read, so that any row may be accepted. */
+/* CarrierOut of all that is in the buffer, which fills the queue. */
+static void queue_all(void)
+{
+    uint32_t i;
+    for (i = 0; i < HM_REQUESTS; i++) {
+        plain_step(HM_INPUT_CARRIER_OUT, 1 + i % HM_PORTS, 0, i);
+    }
+}
+
+/* From the full tool: at the last port stands a pod that is bound and not yet read, and one in the buffer isn't
+   queued, so that any row of document 01 may be accepted. */
 static void free_one(void)
 {
+    plain_step(HM_INPUT_CANCEL_CARRIER_OUT, 0, 0, HM_PLACES - 1);
     plain_step(HM_INPUT_CANCEL_CARRIER, 0, 0, HM_PLACES + HM_PORTS - 1);
     plain_step(HM_INPUT_UNLOAD_START, HM_PORTS, 0, 0);
     plain_step(HM_INPUT_UNLOAD_DONE, HM_PORTS, 0, 0);
@@ -57,6 +68,18 @@ static void free_one(void)
     plain_step(HM_INPUT_BIND, HM_PORTS, 0, HM_RECORDS);
     plain_step(HM_INPUT_LOAD_START, HM_PORTS, 0, 0);
     plain_step(HM_INPUT_LOAD_DONE, HM_PORTS, 0, 0);
+}
+
+/* From the full tool: two ports are empty, and a request is started to the first. */
+static void free_ports(void)
+{
+    uint32_t i;
+    for (i = 0; i < 2; i++) {
+        plain_step(HM_INPUT_CANCEL_CARRIER, 0, 0, HM_PLACES + i);
+        plain_step(HM_INPUT_UNLOAD_START, i + 1, 0, 0);
+        plain_step(HM_INPUT_UNLOAD_DONE, i + 1, 0, 0);
+    }
+    plain_step(HM_INPUT_OUT_START, 1, 0, 0);
 }
 
 /* Every row with every name, known and not, and every port, to this tool, which is kept in `kept_tool`. */
@@ -76,13 +99,19 @@ static void every_row(hm_tool *kept_tool)
     tool = *kept_tool;
 }
 
-/* The last of the two is the full one. */
+/* The last of the three is the full one, with a full queue. */
 static void every_row_to_full_tools(hm_tool *kept_tool)
 {
     fill();
+    queue_all();
     free_one();
     every_row(kept_tool);
     fill();
+    queue_all();
+    free_ports();
+    every_row(kept_tool);
+    fill();
+    queue_all();
     every_row(kept_tool);
 }
 
