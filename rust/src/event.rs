@@ -21,7 +21,7 @@ const OF_MESSAGES: [u32; 4] = [1, 3, 5, 6];
 /// ```
 #[derive(Clone, Copy, Debug, PartialEq, Eq)]
 pub struct Event {
-    /// The input's number, 1 to 26.
+    /// The input's number, 1 to 30.
     pub input: u32,
     /// The report's model.
     pub model: Model,
@@ -97,6 +97,6 @@ mod tests {
     fn what_no_run_gives_has_no_event() {
         assert_eq!(Event::of_change(14, Model::Transfer, 3, 3), None);
         assert_eq!(Event::of_change(1, Model::Transfer, 1, 3), None);
-        assert_eq!(Event::of_change(27, Model::Transfer, 1, 3), None);
+        assert_eq!(Event::of_change(31, Model::Transfer, 1, 3), None);
     }
 }

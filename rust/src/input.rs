@@ -1,11 +1,11 @@
-//! The inputs, with document 01's names and arguments.
+//! The inputs, with the documents' names and arguments.
 use crate::map::ExpectedMap;
 use crate::name::write_text;
 use crate::row::{Argument, Row, ROWS};
 use core::fmt;
 
-/// One input: document 01's 26 rows, with their arguments in its order. Rows 1 and 3 have two cases each, without an
-/// expected map and with one.
+/// One input: document 01's 26 rows and the four of request P5, with their arguments in the documents' order. Rows 1
+/// and 3 have two cases each, without an expected map and with one.
 ///
 /// A port, place or value is any 32-bit number, a name and codes are any bytes of any length:
 /// what is outside its range is answered with [`Refusal::OutOfRange`](crate::Refusal::OutOfRange), not cut.
@@ -32,9 +32,10 @@ pub enum Input<'a> {
     /// 5: the host accepts a carrier's ID, or else its slot map. Port 0: not given.
     ProceedWithCarrier { name: &'a [u8], port: u32 },
     /// 6: the host rejects a carrier. Port 0: not given. Shut an open pod first: its record is closed at once, so that
-    /// another may be opened, or its port is READY TO UNLOAD.
+    /// another may be opened, or its port is READY TO UNLOAD. Its CarrierOut is dropped, unless that is started.
     CancelCarrier { name: &'a [u8], port: u32 },
-    /// 7: a carrier comes from the buffer to a port.
+    /// 7: queues a request that a carrier comes from the buffer to a port, which may still be busy. Nothing moves yet:
+    /// [`OutStart`](Input::OutStart) and [`OutDone`](Input::OutDone) do that.
     CarrierOut { name: &'a [u8], port: u32 },
     /// 8: a carrier that came out is called back in.
     CarrierIn { name: &'a [u8] },
@@ -44,9 +45,9 @@ pub enum Input<'a> {
     ChangeServiceStatus { port: u32, service: u32 },
     /// 11: reserves a port.
     ReserveAtPort { port: u32 },
-    /// 12: ends a port's reservation.
+    /// 12: ends a port's reservation, but not where a CarrierOut is started to it.
     CancelReservationAtPort { port: u32 },
-    /// 13: a pod starts to arrive at a port.
+    /// 13: a pod starts to arrive at a port, to which no CarrierOut is started.
     LoadStart { port: u32 },
     /// 14: the pod has arrived.
     LoadDone { port: u32 },
@@ -58,7 +59,7 @@ pub enum Input<'a> {
     IdReadFailed { port: u32 },
     /// 18: the pod goes from the port to a buffer place, 1 to B.
     MoveIn { port: u32, place: u32 },
-    /// 19: opens a carrier.
+    /// 19: opens a carrier whose CarrierOut isn't started.
     Open { name: &'a [u8] },
     /// 20: the slot map of an open carrier was read: 25 codes, each 0 to 5;
     /// [`slot_code`](crate::words::slot_code) has their words. OK at once if it equals the expected map.
@@ -75,12 +76,20 @@ pub enum Input<'a> {
     UnloadDone { port: u32 },
     /// 26: the pod didn't leave.
     UnloadFail { port: u32 },
+    /// 27: starts the oldest request for a port whose carrier is closed and not IN ACCESS, and reserves the port for it.
+    OutStart { port: u32 },
+    /// 28: the carrier whose request is started to the port has come out and stands there.
+    OutDone { port: u32 },
+    /// 29: drops a carrier's request that isn't started.
+    CancelCarrierOut { name: &'a [u8] },
+    /// 30: drops all requests that aren't started; accepted even with none.
+    CancelAllCarrierOut,
 }
 
 /// An input as the machine takes it. A row looks only at the parts that it names.
 #[derive(Clone, Copy, Debug, Default, PartialEq, Eq, Hash)]
 pub struct Parts<'a> {
-    /// The row: 1 to 26.
+    /// The row: 1 to 30.
     pub number: u32,
     /// The port.
     pub port: u32,
@@ -155,10 +164,14 @@ impl<'a> Input<'a> {
             Input::UnloadStart { port } => row(24).port(port),
             Input::UnloadDone { port } => row(25).port(port),
             Input::UnloadFail { port } => row(26).port(port),
+            Input::OutStart { port } => row(27).port(port),
+            Input::OutDone { port } => row(28).port(port),
+            Input::CancelCarrierOut { name } => row(29).name(name),
+            Input::CancelAllCarrierOut => row(30),
         }
     }
 
-    /// The input of its parts; none if the number isn't 1 to 26, or if rows 1 and 3 carry codes that are no expected
+    /// The input of its parts; none if the number isn't 1 to 30, or if rows 1 and 3 carry codes that are no expected
     /// map. Parts that the row doesn't name are left out.
     ///
     /// ```
@@ -166,7 +179,7 @@ impl<'a> Input<'a> {
     ///
     /// let parts = Parts { number: 13, port: 1, ..Parts::default() };
     /// assert_eq!(Input::from_parts(&parts), Some(Input::LoadStart { port: 1 }));
-    /// assert_eq!(Input::from_parts(&Parts { number: 27, ..parts }), None);
+    /// assert_eq!(Input::from_parts(&Parts { number: 31, ..parts }), None);
     /// assert_eq!(Input::from_parts(&Parts { number: 1, codes: &[5; 25], ..parts }), None);
     /// ```
     pub fn from_parts(parts: &Parts<'a>) -> Option<Input<'a>> {
@@ -200,11 +213,15 @@ impl<'a> Input<'a> {
             24 => Input::UnloadStart { port },
             25 => Input::UnloadDone { port },
             26 => Input::UnloadFail { port },
+            27 => Input::OutStart { port },
+            28 => Input::OutDone { port },
+            29 => Input::CancelCarrierOut { name },
+            30 => Input::CancelAllCarrierOut,
             _ => return None,
         })
     }
 
-    /// Document 01's number, 1 to 26.
+    /// The documents' number, 1 to 30.
     pub fn number(&self) -> u32 {
         self.parts().number
     }
@@ -222,7 +239,7 @@ impl<'a> Input<'a> {
 }
 
 /// The input in document 01's form, with `-` for an empty name: `Bind(1, AB)`, `SlotMap(AC, 25 codes)`. A name stands
-/// as it is sent, with `\x20` for a blank.
+/// as it is sent, with `\x20` for a blank; an input without arguments stands alone.
 ///
 /// ```
 /// use hawsermole::{ExpectedMap, Input};
@@ -232,6 +249,7 @@ impl<'a> Input<'a> {
 /// assert_eq!(Input::SlotMap { name: b"AC", codes: &[3; 25] }.to_string(), "SlotMap(AC, 25 codes)");
 /// let map = ExpectedMap::new(&[3; 25]).unwrap();
 /// assert_eq!(Input::BindWithMap { port: 1, name: b"AB", map }.to_string(), "Bind(1, AB, 25 codes)");
+/// assert_eq!(Input::CancelAllCarrierOut.to_string(), "CancelAllCarrierOut");
 /// ```
 impl fmt::Display for Input<'_> {
     fn fmt(&self, f: &mut fmt::Formatter<'_>) -> fmt::Result {
@@ -246,11 +264,14 @@ impl fmt::Display for Input<'_> {
 ///
 /// let parts = Parts { number: 1, port: 1, name: b"AB", codes: &[5, 5], ..Parts::default() };
 /// assert_eq!(parts.to_string(), "Bind(1, AB, 2 codes)");
-/// assert_eq!(Parts { number: 27, ..parts }.to_string(), "27");
+/// assert_eq!(Parts { number: 31, ..parts }.to_string(), "31");
 /// ```
 impl fmt::Display for Parts<'_> {
     fn fmt(&self, f: &mut fmt::Formatter<'_>) -> fmt::Result {
         let Some(row) = Row::numbered(self.number) else { return write!(f, "{}", self.number) };
+        if row.arguments.is_empty() {
+            return f.write_str(row.name);
+        }
         let left_out = |argument: &Argument| *argument == Argument::MapOrNone && self.codes.is_empty();
         write!(f, "{}(", row.name)?;
         for (place, argument) in row.arguments.iter().filter(|argument| !left_out(argument)).enumerate() {
@@ -276,11 +297,11 @@ mod tests {
 
     const NAME: &[u8] = b"AB";
 
-    /// An input, document 01's number, and its port, value, name and codes.
+    /// An input, its number, and its port, value, name and codes.
     type Case = (Input<'static>, u32, u32, u32, &'static [u8], &'static [u8]);
 
     #[rustfmt::skip]
-    fn every_input() -> [Case; 28] {
+    fn every_input() -> [Case; 32] {
         let (name, codes): (_, &[u8]) = (NAME, &[3; 25]);
         let map = ExpectedMap::new(codes).unwrap();
         [
@@ -312,6 +333,10 @@ mod tests {
             (Input::UnloadStart { port: u32::MAX }, 24, u32::MAX, 0, &[], &[]),
             (Input::UnloadDone { port: 257 }, 25, 257, 0, &[], &[]),
             (Input::UnloadFail { port: 0 }, 26, 0, 0, &[], &[]),
+            (Input::OutStart { port: 16 }, 27, 16, 0, &[], &[]),
+            (Input::OutDone { port: 17 }, 28, 17, 0, &[], &[]),
+            (Input::CancelCarrierOut { name }, 29, 0, 0, NAME, &[]),
+            (Input::CancelAllCarrierOut, 30, 0, 0, &[], &[]),
         ]
     }
 
@@ -330,10 +355,9 @@ mod tests {
         for (input, _, _, _, _, codes) in every_input() {
             let (text, row) = (format!("{input:?}"), input.row());
             let with_map = row.arguments.contains(&Argument::MapOrNone) && !codes.is_empty();
-            assert!(
-                text.starts_with(&format!("{}{} {{", row.name, if with_map { "WithMap" } else { "" })),
-                "{text}"
-            );
+            let brace = if row.arguments.is_empty() { "" } else { " {" };
+            let case = format!("{}{}{brace}", row.name, if with_map { "WithMap" } else { "" });
+            assert!(text.starts_with(&case), "{text}");
             let stands = |argument: &&Argument| **argument != Argument::MapOrNone || with_map;
             let place = |argument: &Argument| text.find(&format!(" {}: ", argument.name())).expect(row.name);
             assert!(row.arguments.iter().filter(stands).map(place).is_sorted(), "{text}");
@@ -342,7 +366,7 @@ mod tests {
 
     #[test]
     fn odd_numbers_are_no_input() {
-        for number in [0, 27, 255, 256, 257, u32::MAX] {
+        for number in [0, 31, 255, 256, 257, 286, u32::MAX] {
             assert_eq!(Input::from_parts(&Parts { number, ..Parts::default() }), None);
         }
     }
@@ -351,7 +375,7 @@ mod tests {
     #[test]
     fn codes_that_are_no_map_are_no_input() {
         for codes in [&[3; 24][..], &[0; 25], &[4; 25], &[3; 26]] {
-            for number in 1..=26 {
+            for number in 1..=30 {
                 let input = Input::from_parts(&Parts { number, codes, ..Parts::default() });
                 assert_eq!(input.is_none(), matches!(number, 1 | 3), "{number}");
             }

@@ -85,7 +85,8 @@ impl fmt::Display for LogRefusal {
 
 impl core::error::Error for LogRefusal {}
 
-/// Judges a log by document 01 as it stands before any request: no expected map, no blank at the end of a name.
+/// Judges a log by document 01 as it stands before any request: no expected map, no blank at the end of a name, and no
+/// queue: CarrierOut moves the carrier at once, and inputs are 1 to 26.
 /// `include/hawsermole.h` has the log's layout. It may be any bytes of any length, and is read once.
 ///
 /// The tool becomes document 01's after the last input that it was given, that of an entry that disagrees included: the

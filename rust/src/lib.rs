@@ -2,12 +2,13 @@
 //! load ports, pods and the buffer, one input at a time, no heap.
 //!
 //! The machine itself is an archive, `libhawsermole.a`, proved to give exactly the answer, the state and the
-//! reports that document 01 lays down, with document 02's requests P1, P3, P4, P6 and P13. This crate wraps it: an
-//! [`Input`] has document 01's name and arguments, a [`Refusal`] is one of its eight reasons, [`Reports`] gives what
+//! reports that document 01 lays down, with document 02's requests P1, P3, P4, P5, P6 and P13. This crate wraps it: an
+//! [`Input`] has the documents' name and arguments, a [`Refusal`] is one of their reasons, [`Reports`] gives what
 //! changed and [`Event`] which transitions of E87 that is, an [`ExpectedMap`] lets the tool judge a slot map that the
 //! host knows beforehand, [`Name::in_text`] tells which name a tag reader's text has without the blanks at its end,
-//! [`Tool::secs_step`] takes a host's S3F17 as it came, and [`Tool::secs_exchange`] writes the S3F18 that answers it,
-//! too. [`states`] has every state by E87's word.
+//! [`Tool::requests`] are the requests of CarrierOut that wait for their port, [`Tool::secs_step`] takes a host's S3F17
+//! as it came, and [`Tool::secs_exchange`] writes the S3F18 that answers it, too. [`states`] has every state by E87's
+//! word.
 //!
 //! ```
 //! use hawsermole::{Input, Model, Refusal, Subject, Tool};
@@ -60,6 +61,7 @@ pub mod raw;
 mod refusal;
 mod reply;
 mod report;
+mod request;
 mod row;
 pub mod states;
 mod tool;
@@ -75,6 +77,7 @@ pub use raw::{secs_at, CARRIER_BYTES, REPORTS_BYTES, TOOL_01_BYTES, TOOL_BYTES};
 pub use refusal::Refusal;
 pub use reply::{reply, Exchanged, REPLY_ROOM};
 pub use report::{Model, Report, Reports, Subject, REPORTS};
+pub use request::{Request, REQUESTS};
 pub use row::{Argument, Row, ROWS};
 pub use tool::{Bridged, Carrier, Port, Tool, PORTS, RECORDS, SECS_DEPTH, SECS_ITEMS, SLOTS};
 pub use waiting::{waiting, Waiting};

@@ -1,9 +1,9 @@
 //! Why an input is refused.
 use core::fmt;
 
-/// Why an input was refused: document 01's eight reasons, of which the lowest that applies is given; or why a message
-/// was, by request P3: the first that its reading meets, and the lowest at one item; or that a reply had no room, by
-/// request P13.
+/// Why an input was refused: document 01's eight reasons and the two of request P5, of which the lowest that applies is
+/// given; or why a message was, by request P3: the first that its reading meets, and the lowest at one item; or that a
+/// reply had no room, by request P13.
 ///
 /// ```
 /// use hawsermole::{Input, Refusal, Tool};
@@ -17,7 +17,7 @@ use core::fmt;
 #[derive(Clone, Copy, Debug, PartialEq, Eq, PartialOrd, Ord, Hash)]
 #[repr(u8)]
 pub enum Refusal {
-    /// 1: a port, place, value or name is outside its range, the input number isn't 1 to 26, or the state isn't sound;
+    /// 1: a port, place, value or name is outside its range, the input number isn't 1 to 30, or the state isn't sound;
     /// also codes that are no slot map, or no [`ExpectedMap`](crate::ExpectedMap) in rows 1 and 3, and a text in which
     /// there is no [`Name`](crate::Name::in_text).
     OutOfRange = 1,
@@ -25,7 +25,7 @@ pub enum Refusal {
     NoRecord = 2,
     /// 3: the name is taken.
     NameTaken = 3,
-    /// 4: the port is reserved or tied, where the row says so.
+    /// 4: the port is reserved or tied, where the row says so; in rows 12 and 13 also that a CarrierOut is started to it.
     ReservedOrTied = 4,
     /// 5: the row's conditions on state don't hold.
     Conditions = 5,
@@ -35,6 +35,10 @@ pub enum Refusal {
     NotVerified = 7,
     /// 8: the buffer place is taken, or the opener is in use.
     PlaceOrOpenerTaken = 8,
+    /// 9: 16 requests of CarrierOut are queued already, that of the same carrier perhaps among them.
+    QueueFull = 9,
+    /// 10: the carrier's CarrierOut is queued already, to whatever port, started or not.
+    QueuedAlready = 10,
     /// 14: the reply is longer than the room lent for it. Nothing was written, and the tool got no input.
     RoomTooSmall = 14,
     /// 20: the message ends inside an item, or before one that a list counts.
@@ -54,8 +58,8 @@ pub enum Refusal {
 }
 
 impl Refusal {
-    /// All sixteen, by number.
-    pub const ALL: [Refusal; 16] = [
+    /// All eighteen, by number.
+    pub const ALL: [Refusal; 18] = [
         Refusal::OutOfRange,
         Refusal::NoRecord,
         Refusal::NameTaken,
@@ -64,6 +68,8 @@ impl Refusal {
         Refusal::ExpectedFull,
         Refusal::NotVerified,
         Refusal::PlaceOrOpenerTaken,
+        Refusal::QueueFull,
+        Refusal::QueuedAlready,
         Refusal::RoomTooSmall,
         Refusal::CutShort,
         Refusal::UnknownCode,
@@ -74,7 +80,7 @@ impl Refusal {
         Refusal::ShapeOrAction,
     ];
 
-    /// The documents' number: 1 to 8, 14 for a reply, and 20 to 26 for a message.
+    /// The documents' number: 1 to 10, 14 for a reply, and 20 to 26 for a message.
     pub const fn number(self) -> u8 {
         self as u8
     }
@@ -97,7 +103,7 @@ impl Refusal {
     ///
     /// assert_eq!(Refusal::from_number(7), Some(Refusal::NotVerified));
     /// assert_eq!(Refusal::from_number(0), None);
-    /// assert_eq!(Refusal::from_number(9), None);
+    /// assert_eq!(Refusal::from_number(11), None);
     /// assert_eq!(Refusal::from_number(26), Some(Refusal::ShapeOrAction));
     /// ```
     pub fn from_number(number: u32) -> Option<Refusal> {
@@ -108,7 +114,7 @@ impl Refusal {
     pub const fn text(self) -> &'static str {
         match self {
             Refusal::OutOfRange => {
-                "a port, place, value or name is outside its range, the input number isn't 1 to 26, \
+                "a port, place, value or name is outside its range, the input number isn't 1 to 30, \
                  or the state isn't sound"
             }
             Refusal::NoRecord => "the name has no record",
@@ -118,6 +124,8 @@ impl Refusal {
             Refusal::ExpectedFull => "16 carriers are expected already",
             Refusal::NotVerified => "not verified",
             Refusal::PlaceOrOpenerTaken => "the buffer place is taken, or the opener is in use",
+            Refusal::QueueFull => "the queue for CarrierOut is full",
+            Refusal::QueuedAlready => "CarrierOut is queued already",
             Refusal::RoomTooSmall => "the room lent is too small",
             Refusal::CutShort => "the message is cut short",
             Refusal::UnknownCode => "unknown format code",
@@ -153,12 +161,12 @@ mod tests {
 
     #[test]
     fn numbers_go_both_ways() {
-        for (number, refusal) in (1..=8).chain([14]).chain(20..=26).zip(Refusal::ALL) {
+        for (number, refusal) in (1..=10).chain([14]).chain(20..=26).zip(Refusal::ALL) {
             assert_eq!(refusal.number(), number);
             assert_eq!(refusal.is_of_message(), number > 14);
             assert_eq!(Refusal::from_number(u32::from(refusal.number())), Some(refusal));
         }
-        for odd in [0, 9, 13, 15, 19, 27, 255, 256, 257, 276, u32::MAX] {
+        for odd in [0, 11, 13, 15, 19, 27, 255, 256, 257, 276, u32::MAX] {
             assert_eq!(Refusal::from_number(odd), None);
         }
     }
@@ -167,6 +175,7 @@ mod tests {
     fn reasons_are_the_documents_words() {
         assert_eq!(Refusal::NotVerified.to_string(), "not verified");
         assert_eq!(Refusal::ExpectedFull.to_string(), "16 carriers are expected already");
+        assert_eq!(Refusal::QueueFull.to_string(), "the queue for CarrierOut is full");
         assert_eq!(Refusal::BytesLeftOver.to_string(), "bytes left over");
         assert_eq!(Refusal::RoomTooSmall.to_string(), "the room lent is too small");
         assert!(Refusal::OutOfRange.to_string().ends_with("or the state isn't sound"));

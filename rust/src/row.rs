@@ -41,14 +41,14 @@ impl Argument {
     }
 }
 
-/// A row of document 01: one kind of input.
+/// A row of document 01, or of a request: one kind of input.
 #[derive(Clone, Copy, Debug, PartialEq, Eq)]
 pub struct Row {
-    /// 1 to 26.
+    /// 1 to 30.
     pub number: u32,
-    /// Document 01's name.
+    /// The documents' name.
     pub name: &'static str,
-    /// The arguments in document 01's order.
+    /// The arguments in the documents' order.
     pub arguments: &'static [Argument],
     /// What it means, in a few words.
     pub text: &'static str,
@@ -57,20 +57,20 @@ pub struct Row {
 }
 
 impl Row {
-    /// The row of a number; none outside 1 to 26.
+    /// The row of a number; none outside 1 to 30.
     ///
     /// ```
     /// use hawsermole::Row;
     ///
     /// assert_eq!(Row::numbered(20).unwrap().name, "SlotMap");
     /// assert_eq!(Row::numbered(0), None);
-    /// assert_eq!(Row::numbered(27), None);
+    /// assert_eq!(Row::numbered(31), None);
     /// ```
     pub fn numbered(number: u32) -> Option<&'static Row> {
         ROWS.iter().find(|row| row.number == number)
     }
 
-    /// The row of a name, written as in document 01.
+    /// The row of a name, written as in the documents.
     ///
     /// ```
     /// use hawsermole::{Argument, Row};
@@ -97,8 +97,8 @@ impl Row {
     }
 }
 
-/// The 26 rows, by number.
-pub const ROWS: [Row; 26] = [
+/// The 30 rows, by number.
+pub const ROWS: [Row; 30] = [
     row(
         1,
         "Bind",
@@ -119,8 +119,8 @@ pub const ROWS: [Row; 26] = [
         "of a placed carrier, no port given but its own, not IN ACCESS, and its port idle; \
          of an expected one, no tie, and at the given port an unknown pod",
     ),
-    row(7, "CarrierOut", &[Name, Port], "a carrier comes from the buffer to a port")
-        .needs("the carrier in the buffer, closed and not IN ACCESS, and the port READY TO LOAD"),
+    row(7, "CarrierOut", &[Name, Port], "queue a carrier's way from the buffer to a port")
+        .needs("the carrier in the buffer"),
     row(8, "CarrierIn", &[Name], "a carrier that came out is called back in")
         .needs("the carrier come out and at a port READY TO UNLOAD"),
     row(9, "ChangeAccess", &[Port, Access], "set the access mode").needs("the port idle"),
@@ -138,8 +138,8 @@ pub const ROWS: [Row; 26] = [
     row(18, "MoveIn", &[Port, Place], "the pod goes from the port into the buffer")
         .needs("a pod present, the port idle and TRANSFER BLOCKED"),
     row(19, "Open", &[Name], "open a carrier").needs(
-        "the carrier closed, NOT ACCESSED and in the buffer, or, where there is no buffer, \
-         at a port that is idle and TRANSFER BLOCKED",
+        "the carrier closed, NOT ACCESSED and in the buffer, its CarrierOut not started, or, \
+         where there is no buffer, at a port that is idle and TRANSFER BLOCKED",
     ),
     row(20, "SlotMap", &[Name, Codes], "the slot map was read").needs("the carrier open, SLOT MAP NOT READ"),
     row(21, "AccessStart", &[Name], "access to the wafers starts").needs("the carrier open and NOT ACCESSED"),
@@ -148,6 +148,20 @@ pub const ROWS: [Row; 26] = [
     row(24, "UnloadStart", &[Port], "a pod starts to leave").needs("the port READY TO UNLOAD"),
     row(25, "UnloadDone", &[Port], "the pod has left").needs("the port unloading"),
     row(26, "UnloadFail", &[Port], "the pod didn't leave").needs("the port unloading"),
+    row(
+        27,
+        "OutStart",
+        &[Port],
+        "start the oldest CarrierOut that is ready for a port, and reserve the port",
+    )
+    .needs(
+        "the port READY TO LOAD, and a CarrierOut queued for it whose carrier is closed and not IN ACCESS",
+    ),
+    row(28, "OutDone", &[Port], "the carrier has come out of the buffer and stands on the port")
+        .needs("a CarrierOut started to the port"),
+    row(29, "CancelCarrierOut", &[Name], "take a carrier's CarrierOut back")
+        .needs("the carrier's CarrierOut queued and not started"),
+    row(30, "CancelAllCarrierOut", &[], "take back every CarrierOut that isn't started"),
 ];
 
 #[cfg(test)]
@@ -189,11 +203,11 @@ mod tests {
         }
     }
 
-    /// Row 3 alone has no refusal 5.
+    /// Rows 3 and 30 alone have no refusal 5.
     #[test]
     fn conditions_stand_where_a_row_has_refusal_5() {
         for row in &ROWS {
-            assert_eq!(row.conditions.is_none(), row.number == 3, "{}", row.name);
+            assert_eq!(row.conditions.is_none(), [3, 30].contains(&row.number), "{}", row.name);
         }
     }
 }

@@ -182,6 +182,14 @@ states! {
 }
 
 states! {
+    /// A request of CarrierOut.
+    RequestState {
+        Queued = 0, "queued";
+        Started = 1, "started";
+    }
+}
+
+states! {
     /// A code of a slot map.
     SlotCode {
         Undefined = 0, "UNDEFINED";

@@ -6,6 +6,7 @@ use crate::raw::{CARRIER_BYTES, REPORTS_BYTES, TOOL_01_BYTES, TOOL_BYTES};
 use crate::refusal::{refused, Refusal};
 use crate::reply::Exchanged;
 use crate::report::Reports;
+use crate::request::QUEUE_BYTES;
 use crate::waiting::{waiting, Waiting};
 use core::fmt;
 
@@ -22,9 +23,9 @@ pub const SECS_DEPTH: usize = 6;
 
 pub(crate) const HEAD_BYTES: usize = 3;
 pub(crate) const PORT_BYTES: usize = 22;
-pub(crate) const SPARE_BYTES: usize = 991;
+pub(crate) const SPARE_BYTES: usize = 702;
 const CARRIERS_START: usize = HEAD_BYTES + PORTS * PORT_BYTES;
-const MAPS_START: usize = TOOL_BYTES - SPARE_BYTES - RECORDS * SLOTS;
+const MAPS_START: usize = TOOL_BYTES - SPARE_BYTES - QUEUE_BYTES - RECORDS * SLOTS;
 
 /// A tool: its ports, its buffer and the carriers that it knows of.
 ///
@@ -94,7 +95,7 @@ impl Tool {
     }
 
     /// The tool's bytes: ports, places, records; 4 ports of 22 bytes; 36 carriers of 50 bytes; their 36 expected
-    /// maps of 25 bytes; 991 bytes that are zero.
+    /// maps of 25 bytes; the number of requests queued, and 16 of them of 18 bytes; 702 bytes that are zero.
     pub const fn as_bytes(&self) -> &[u8; TOOL_BYTES] {
         &self.bytes
     }
@@ -112,7 +113,7 @@ impl Tool {
     /// let mut tool = Tool::setup(1, 0).unwrap();
     /// let load = Parts { number: 13, port: 1, value: 77, name: b"ignored", codes: b"ignored" };
     /// assert_eq!(tool.step_parts(&load).unwrap().len(), 1);
-    /// assert_eq!(tool.step_parts(&Parts { number: 27, ..load }), Err(Refusal::OutOfRange));
+    /// assert_eq!(tool.step_parts(&Parts { number: 31, ..load }), Err(Refusal::OutOfRange));
     /// assert_eq!(tool.step_parts(&Parts { port: 257, ..load }), Err(Refusal::OutOfRange));
     ///
     /// // Bind names the codes: none, or an expected map.
@@ -184,7 +185,7 @@ impl Tool {
         Exchanged { answer, items, reply: &room[..length as usize] }
     }
 
-    /// Whether every field is in its range and all of document 01's conditions on a state hold.
+    /// Whether every field is in its range and all of the documents' conditions on a state hold.
     /// A tool from a set-up is sound, and every input leaves it so.
     pub fn is_sound(&self) -> bool {
         machine::sound(&self.bytes)
@@ -284,6 +285,7 @@ impl fmt::Debug for Tool {
             .field("ports", &printed(|f| f.debug_list().entries(self.ports()).finish()))
             .field("carriers", &printed(|f| f.debug_list().entries(self.carriers()).finish()))
             .field("expected_maps", &printed(|f| f.debug_map().entries(self.expected_maps()).finish()))
+            .field("requests", &printed(|f| f.debug_list().entries(self.requests()).finish()))
             .finish()
     }
 }
@@ -395,7 +397,7 @@ impl Carrier {
     }
 }
 
-fn name_at(bytes: &[u8], start: usize) -> Name {
+pub(crate) fn name_at(bytes: &[u8], start: usize) -> Name {
     let mut name = [0; NAME_BYTES];
     name.copy_from_slice(&bytes[start..start + NAME_BYTES]);
     Name::new(name)
@@ -507,7 +509,7 @@ mod tests {
         let text = format!("{tool:?}");
         assert!(text.starts_with("Tool { places: 2, ports: [Port { number: 1, transfer: 1,"), "{text}");
         assert!(text.contains("carriers: [Carrier { name: Name(\"AB\")"), "{text}");
-        assert!(text.ends_with("expected_maps: {} }"), "{text}");
+        assert!(text.ends_with("expected_maps: {}, requests: [] }"), "{text}");
         let map = ExpectedMap::new(&[3; SLOTS]).unwrap();
         tool.step(&Input::BindWithMap { port: 1, name: b"C", map }).unwrap();
         assert!(format!("{tool:?}").contains("expected_maps: {Name(\"C\"): [3, 3, 3,"), "{tool:?}");

@@ -70,6 +70,11 @@ pub fn place(number: u8) -> &'static str {
     Place::from_number(number).map_or(OUT, Place::word)
 }
 
+/// A request of CarrierOut.
+pub fn request(started: u8) -> &'static str {
+    RequestState::from_number(started).map_or(OUT, RequestState::word)
+}
+
 /// A code of a slot map.
 ///
 /// ```
@@ -88,8 +93,8 @@ mod tests {
 
     /// Each table with the last number that has a word.
     #[test]
-    fn every_number_of_document_01_has_a_word() {
-        let tables: [(Table, u8); 11] = [
+    fn every_number_of_the_documents_has_a_word() {
+        let tables: [(Table, u8); 12] = [
             (transfer, 3),
             (access, 1),
             (reservation, 1),
@@ -100,6 +105,7 @@ mod tests {
             (movement, 2),
             (tag, 2),
             (place, 2),
+            (request, 1),
             (slot_code, 5),
         ];
         for (table, last) in tables {

@@ -1,7 +1,7 @@
 //! Names padded with blanks (request P4), through the typed interface.
 use hawsermole::{ExpectedMap, Input, Name, Parts, Refusal, Tool, ROWS};
 
-/// A run that reaches rows 1 to 8, 16 and 19 to 23, each accepted; `name` is given with every one of them.
+/// A run that reaches rows 1 to 8, 16, 19 to 23 and 29, each accepted; `name` is given with every one of them.
 fn run(name: &[u8]) -> Vec<Input<'_>> {
     let codes = &[3; 25];
     let map = ExpectedMap::new(codes).unwrap();
@@ -22,6 +22,10 @@ fn run(name: &[u8]) -> Vec<Input<'_>> {
         Input::AccessEnd { name, end: 0 },
         Input::Close { name },
         Input::CarrierOut { name, port: 1 },
+        Input::CancelCarrierOut { name },
+        Input::CarrierOut { name, port: 1 },
+        Input::OutStart { port: 1 },
+        Input::OutDone { port: 1 },
         Input::CarrierIn { name },
         Input::CancelCarrier { name, port: 1 },
         Input::UnloadStart { port: 1 },

@@ -18,7 +18,7 @@ fn lines() -> Vec<String> {
     let mut lines: Vec<String> =
         (0..=27).map(|number| format!("answer {number}: {}", answer(number))).collect();
     lines.extend((0..=30).map(|number| format!("verdict {number}: {}", verdict(number))));
-    lines.extend((0..=27).map(|number| format!("input {number}: {}", input(number))));
+    lines.extend((0..=31).map(|number| format!("input {number}: {}", input(number))));
     lines.extend((0..=8).map(|number| format!("model {number}: {}", model(number))));
     for model in Model::ALL {
         lines
@@ -27,6 +27,7 @@ fn lines() -> Vec<String> {
     lines.extend((0..=3).map(|number| format!("movement {number}: {}", words::movement(number))));
     lines.extend((0..=3).map(|number| format!("tag {number}: {}", words::tag(number))));
     lines.extend((0..=3).map(|number| format!("place {number}: {}", words::place(number))));
+    lines.extend((0..=2).map(|number| format!("request {number}: {}", words::request(number))));
     lines.extend((0..=6).map(|number| format!("code {number}: {}", words::slot_code(number))));
     lines
 }
