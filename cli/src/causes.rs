@@ -84,12 +84,15 @@ causes! {
     Tied ReservedOrTied "the port is tied"
         "CancelBind while its carrier is expected, else wait until that has moved in or left. Or take another port"
 
+    KeptForOut ReservedOrTied "a CarrierOut is started to the port"
+        "OutDone comes first, when its carrier stands there: nothing else ends it. Or take another port"
+
     OutOfService Conditions "the port is OUT OF SERVICE"
         "ChangeServiceStatus to 1 puts it in service"
     NotReadyToLoad Conditions "the port isn't READY TO LOAD"
-        "let no pod onto it; send again when the pod there has moved in or left: nothing is queued"
+        "let no pod onto it; send again when the pod there has moved in or left"
     NotReadyToUnload Conditions "the port isn't READY TO UNLOAD"
-        "keep the pod; Close after the access, or CancelCarrier, or CarrierOut makes the port READY TO UNLOAD"
+        "keep the pod; Close after the access, or CancelCarrier, or OutDone makes the port READY TO UNLOAD"
     NotBlocked Conditions "the port isn't TRANSFER BLOCKED"
         "the pod is on its way out: unload it; CarrierIn calls back what came out of the buffer"
     Moving Conditions "the port isn't idle"
@@ -151,6 +154,15 @@ causes! {
     NotInAccess Conditions "the carrier isn't IN ACCESS"
         "AccessStart comes first. If wafers were touched, tool and floor differ: stop, call somebody"
 
+    OnItsWay Conditions "the carrier's CarrierOut is started"
+        "it runs on to OutDone; after that CarrierIn and MoveIn bring the carrier back in"
+    NotQueued Conditions "no CarrierOut of the carrier is queued"
+        "nothing to take back: check the name"
+    NoneQueued Conditions "no CarrierOut is queued for the port"
+        "nothing to start: CarrierOut with this port comes first"
+    NoneStarted Conditions "no CarrierOut is started to the port"
+        "OutStart comes first. If a pod has come out, tool and floor differ: stop the port, call somebody"
+
     Full ExpectedFull "16 carriers are expected"
         "take announcements back, or wait until pods arrive"
 
@@ -176,9 +188,15 @@ causes! {
         "unload it: it never opens again; loaded once more it is verified afresh"
 
     PlaceTaken PlaceOrOpenerTaken "the buffer place is taken"
-        "choose one that is free; where none is, wait for a CarrierOut"
+        "choose one that is free; where none is, wait for an OutDone"
     OpenerInUse PlaceOrOpenerTaken "another carrier is open"
         "Close that one first: the buffer has one opener"
+
+    QueueFull QueueFull "16 CarrierOuts are queued"
+        "OutStart and OutDone make room, or CancelCarrierOut; then send it again"
+
+    QueuedAlready QueuedAlready "the carrier's CarrierOut is queued already"
+        "nothing, if the port is right; to another port after CancelCarrierOut, which drops what isn't started"
 }
 
 #[cfg(test)]

@@ -1,5 +1,4 @@
 //! An entry of a log: its layout, read and written.
-use crate::print::{self, Answer};
 use crate::script::Sent;
 use hawsermole::{Parts, Report, Subject, SLOTS};
 
@@ -116,13 +115,12 @@ pub fn misfit(sent: &Sent) -> Option<String> {
 }
 
 /// Writes an entry; the log can hold the input.
-pub fn write(log: &mut Vec<u8>, sent: &Sent, given: &Answer) {
+pub fn write(log: &mut Vec<u8>, sent: &Sent, answer: u8, reports: &[Report]) {
     let numbers = [sent.number, sent.port, sent.value];
     log.extend(numbers.map(|number| number as u8));
     write_text(log, &sent.name);
     log.extend(&sent.codes);
-    let reports = print::reports(given);
-    log.extend([print::answer(given), reports.len() as u8]);
+    log.extend([answer, reports.len() as u8]);
     for report in reports {
         log.push(report.model.number());
         match report.subject {
@@ -141,13 +139,15 @@ fn write_text(log: &mut Vec<u8>, text: &[u8]) {
 #[cfg(test)]
 mod tests {
     use super::*;
+    use crate::print::Answer;
     use hawsermole::{Input, Tool};
 
     fn bound() -> (Vec<u8>, Answer) {
         let given = Tool::setup(1, 0).unwrap().step(&Input::Bind { port: 1, name: b"AB" });
         let sent = Sent { number: 1, port: 1, name: b"AB".into(), ..Sent::default() };
         let mut log = Vec::new();
-        write(&mut log, &sent, &given);
+        let reports: Vec<Report> = given.clone().unwrap().collect();
+        write(&mut log, &sent, 0, &reports);
         (log, given)
     }
 

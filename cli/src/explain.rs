@@ -1,6 +1,7 @@
 //! What an input, its answer and its reports mean, in E87's words: indented lines below the answer.
 use crate::grounds;
 use crate::print::{self, Answer};
+use crate::queue;
 use crate::values::cut;
 use hawsermole::{
     words, Argument, Model, Name, NameError, Parts, Refusal, Report, Row, Subject, Tool, Waiting, SLOTS,
@@ -53,8 +54,9 @@ pub fn waiting(tool: &Tool, Waiting { first, read }: Waiting) -> String {
 }
 
 /// A line for the input, one for the name that was used where another text was sent, one for the answer; for a refusal
-/// its causes with what to do about each; one for each report, and one for what a slot map was compared with.
-pub fn answer(tool: &Tool, parts: &Parts, given: &Answer) -> String {
+/// its causes with what to do about each; one for each report, for what a slot map was compared with, and for each
+/// change of the queue. The tools are those before and after.
+pub fn answer(before: &Tool, after: &Tool, parts: &Parts, given: &Answer) -> String {
     let row = Row::numbered(parts.number);
     let input = parts.to_string();
     let mut lines =
@@ -65,18 +67,20 @@ pub fn answer(tool: &Tool, parts: &Parts, given: &Answer) -> String {
     }
     match given {
         Ok(_) => lines.push("accepted".into()),
-        Err(refusal) => lines.extend(refused(tool, parts, *refusal, row)),
+        Err(refusal) => lines.extend(refused(before, parts, *refusal, row)),
     }
     lines.extend(print::reports(given).map(of_report));
     if given.is_ok() && row.is_some_and(|row| row.arguments.contains(&Argument::Codes)) {
-        let expected = name.and_then(Result::ok).and_then(|name| tool.expected_map(name.as_bytes()));
+        let expected = name.and_then(Result::ok).and_then(|name| after.expected_map(name.as_bytes()));
         lines.push(compared(expected, parts.codes));
+    }
+    if given.is_ok() {
+        lines.extend(queue::changes(before, after, parts));
     }
     lines.into_iter().map(|line| format!("  {line}\n")).collect()
 }
 
-/// The refusal and what the row's conditions are, and each cause with what to do. A refusal leaves the tool as it was,
-/// so that it is told of the tool that the input met.
+/// The refusal and what the row's conditions are, and each cause with what to do, by the tool that the input met.
 fn refused(tool: &Tool, parts: &Parts, refusal: Refusal, row: Option<&Row>) -> Vec<String> {
     let mut lines = vec![format!("refused, {}: {refusal}", refusal.number())];
     let needed = row.and_then(|row| row.conditions).filter(|_| refusal == Refusal::Conditions);
@@ -137,12 +141,13 @@ fn of_report(Report { model, subject, old, new }: Report) -> String {
 #[cfg(test)]
 mod tests {
     use super::*;
-    use crate::print::tests::tool;
+    use crate::print::tests::{stored, tool};
     use hawsermole::{ExpectedMap, Input};
 
     fn explained(tool: &mut Tool, input: Input) -> String {
+        let before = tool.clone();
         let given = tool.step(&input);
-        answer(tool, &input.parts(), &given)
+        answer(&before, tool, &input.parts(), &given)
     }
 
     #[test]
@@ -243,8 +248,9 @@ mod tests {
         let mut tool = tool(1, 0, &[]);
         let mut told = |codes: &[u8]| {
             let parts = Parts { number: 1, port: 1, value: 0, name: NAME, codes };
+            let before = tool.clone();
             let given = tool.step_parts(&parts);
-            answer(&tool, &parts, &given)
+            answer(&before, &tool, &parts, &given)
         };
         let short = told(&[3; 2]);
         assert!(short.starts_with("  Bind(1, AB, 2 codes): associate"), "{short}");
@@ -258,8 +264,9 @@ mod tests {
     /// The lines of an input by its parts, without the first two spaces of each.
     fn lines(tool: &mut Tool, number: u32, name: &[u8], codes: &[u8]) -> Vec<String> {
         let parts = Parts { number, port: 1, value: 0, name, codes };
+        let before = tool.clone();
         let given = tool.step_parts(&parts);
-        answer(tool, &parts, &given).lines().map(|line| line.trim_start().into()).collect()
+        answer(&before, tool, &parts, &given).lines().map(|line| line.trim_start().into()).collect()
     }
 
     #[test]
@@ -322,13 +329,33 @@ mod tests {
             early.starts_with(&format!("  LoadDone(1): the pod has arrived\n  {conditions}  {because}")),
             "{early}"
         );
-        let parts = Parts { number: 27, ..Parts::default() };
-        let given = tool.step_parts(&parts);
-        let odd = answer(&tool, &parts, &given);
-        assert!(odd.starts_with("  27: no input has this number\n  refused, 1: a port, place,"), "{odd}");
-        assert!(odd.contains("\n  because no input has this number: 27; inputs are 1 to 26\n"), "{odd}");
+        let odd = lines(&mut tool, 31, b"", &[]);
+        assert_eq!(odd[0], "31: no input has this number");
+        assert!(odd[1].starts_with("refused, 1: a port, place,"), "{odd:?}");
+        assert_eq!(odd[2], "because no input has this number: 31; inputs are 1 to 30");
         let none = explained(&mut Tool::none(), Input::LoadDone { port: 1 });
         assert!(none.contains("\n  because there is no tool\n  next: set one up, of 1 to 4 ports"), "{none}");
+    }
+
+    #[test]
+    fn carriers_that_are_queued() {
+        let mut tool = stored(2, &[b"A", b"B"]);
+        let queued = explained(&mut tool, Input::CarrierOut { name: b"A", port: 1 });
+        let expected = "  CarrierOut(A, 1): queue a carrier's way from the buffer to a port\n  accepted\n\
+                        \x20 carrier A is queued for port 1; ahead of it there: nothing\n";
+        assert_eq!(queued, expected);
+        let started = explained(&mut tool, Input::OutStart { port: 1 });
+        let expected = "  port 1: NOT RESERVED to RESERVED\n\
+                        \x20 the CarrierOut of A is started: port 1 is kept for it until OutDone\n";
+        assert!(started.ends_with(expected), "{started}");
+        let kept = explained(&mut tool, Input::LoadStart { port: 1 });
+        let because = "\n  because a CarrierOut is started to the port: \
+                       port 1 is kept for carrier A, whose CarrierOut was started\n  next: OutDone comes first";
+        assert!(kept.contains(because), "{kept}");
+        let all = explained(&mut tool, Input::CancelAllCarrierOut);
+        let expected = "  CancelAllCarrierOut: take back every CarrierOut that isn't started\n  accepted\n\
+                        \x20 no CarrierOut was queued that isn't started\n";
+        assert_eq!(all, expected);
     }
 
     /// A name of any length is sent; of a long one the beginning is told.

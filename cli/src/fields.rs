@@ -1,12 +1,15 @@
 //! The tool's fields, byte by byte: which is out of its range, and which byte isn't zero though nothing uses it.
 use crate::numbers::place::BUFFER;
-use hawsermole::{Carrier, Port, Tool, CARRIER_BYTES, PORTS, RECORDS, SLOTS};
+use hawsermole::{Carrier, Port, Tool, CARRIER_BYTES, PORTS, RECORDS, REQUESTS, SLOTS};
 
 const HEAD_BYTES: usize = 3;
 const PORT_BYTES: usize = 22;
 const CARRIERS_START: usize = HEAD_BYTES + PORTS * PORT_BYTES;
 const MAPS_START: usize = CARRIERS_START + RECORDS * CARRIER_BYTES;
-const UNUSED_START: usize = MAPS_START + RECORDS * SLOTS;
+const QUEUE_START: usize = MAPS_START + RECORDS * SLOTS;
+const REQUESTS_START: usize = QUEUE_START + 1;
+const REQUEST_BYTES: usize = NAME_BYTES + 2;
+const UNUSED_START: usize = REQUESTS_START + REQUESTS * REQUEST_BYTES;
 const NAME_BYTES: usize = 16;
 const PLACES: u8 = 16;
 
@@ -30,7 +33,8 @@ pub fn out_of_range(tool: &Tool) -> Option<String> {
     let carriers =
         || (1..).zip(tool.carriers()).find_map(|(record, carrier)| of_carrier(tool, record, &carrier));
     let maps = || (1..=tool.records().len()).find_map(|record| of_expected_map(tool, record));
-    counts(tool).or_else(ports).or_else(carriers).or_else(maps)
+    let requests = || of_queue(tool);
+    counts(tool).or_else(ports).or_else(carriers).or_else(maps).or_else(requests)
 }
 
 fn counts(tool: &Tool) -> Option<String> {
@@ -92,13 +96,28 @@ fn of_expected_map(tool: &Tool, record: usize) -> Option<String> {
     Some(format!("record {record}: code {code} at slot {slot} of its expected map, not 1 or 3 (byte {byte})"))
 }
 
+/// The number of requests, and of each its port and whether it is started. Its name is a carrier's, or is told so.
+fn of_queue(tool: &Tool) -> Option<String> {
+    let count = Field(QUEUE_START, "requests of CarrierOut", 0, REQUESTS as u8);
+    let request = |place: usize| {
+        let port = REQUESTS_START + REQUEST_BYTES * place + NAME_BYTES;
+        let ports = tool.ports().len() as u8;
+        let mut fields = [Field(port, "port", 1, ports), Field(port + 1, "started", 0, 1)].into_iter();
+        let odd = fields.find_map(|field| field.outside(tool))?;
+        Some(format!("request {}: {odd}", place + 1))
+    };
+    count.outside(tool).or_else(|| (0..tool.requests().len()).find_map(request))
+}
+
 /// The first byte that isn't zero though nothing uses it.
 pub fn unused(tool: &Tool) -> Option<String> {
     let (bytes, ports, records) = (tool.as_bytes(), tool.ports().len(), tool.records().len());
+    let requests = tool.requests().len();
     let unused = [
         (HEAD_BYTES + PORT_BYTES * ports..CARRIERS_START, "no port"),
         (CARRIERS_START + CARRIER_BYTES * records..MAPS_START, "no record"),
-        (MAPS_START + SLOTS * records..UNUSED_START, "no record's map"),
+        (MAPS_START + SLOTS * records..QUEUE_START, "no record's map"),
+        (REQUESTS_START + REQUEST_BYTES * requests..UNUSED_START, "no request"),
         (UNUSED_START..bytes.len(), "nothing"),
     ];
     unused.into_iter().filter(|(range, _)| !zeros(&bytes[range.clone()])).find_map(|(mut range, of)| {

@@ -1,6 +1,7 @@
-//! Which causes an input meets: document 01's rows, each with what it is refused for, clause by clause. The answer is
-//! the machine's; here is said why.
+//! Which causes an input meets: the rows, each with what it is refused for, clause by clause. The answer is the
+//! machine's; here is said why.
 use crate::causes::Cause;
+use crate::numbers::row;
 use crate::soundness;
 use crate::standing::{Grounds, Standing};
 use hawsermole::{Argument, ExpectedMap, Name, Parts, Row, Tool, ROWS, SLOTS};
@@ -19,20 +20,28 @@ pub fn ground(holds: bool, cause: Cause, detail: impl Into<String>) -> Option<Gr
 
 /// The grounds of the refusal that is answered: of the lowest number that applies. None where the input is accepted.
 pub fn lowest(tool: &Tool, parts: &Parts) -> Vec<Ground> {
-    let mut grounds = all(tool, parts);
+    of_lowest(all(tool, parts, ROWS.len() as u32, of_row))
+}
+
+/// The same by document 01 alone, of a tool of its own: 26 rows, and CarrierOut moves the carrier at once.
+pub fn lowest_by_01(tool: &Tool, parts: &Parts) -> Vec<Ground> {
+    of_lowest(all(tool, parts, row::LAST_OF_01, of_row_by_01))
+}
+
+fn of_lowest(mut grounds: Vec<Ground>) -> Vec<Ground> {
     let lowest = grounds.iter().map(|ground| ground.cause.refusal()).min();
     grounds.retain(|ground| Some(ground.cause.refusal()) == lowest);
     grounds
 }
 
 /// State is looked at only where every part of the input is in its range.
-fn all(tool: &Tool, parts: &Parts) -> Vec<Ground> {
+fn all(tool: &Tool, parts: &Parts, rows: u32, of_row: fn(&Standing) -> Grounds) -> Vec<Ground> {
     let unusable = unusable(tool);
     if !unusable.is_empty() {
         return unusable;
     }
-    let Some(row) = Row::numbered(parts.number) else {
-        let detail = format!("{}; inputs are 1 to {}", parts.number, ROWS.len());
+    let Some(row) = Row::numbered(parts.number).filter(|row| row.number <= rows) else {
+        let detail = format!("{}; inputs are 1 to {rows}", parts.number);
         return ground(true, Cause::NoInput, detail).into_iter().collect();
     };
     let out_of_range = out_of_range(tool, row, parts);
@@ -115,17 +124,14 @@ fn of_row(at: &Standing) -> Grounds {
         4 => at.with_record(|c| [at.expected(c), at.untied(c)].into()),
         5 => at.verdict(|c| at.waits(c)),
         6 => at.verdict(|c| [at.not_in_access(c), at.home_idle(c)].into()),
-        7 => at.with_record(|c| {
-            let out = [at.in_buffer(c), at.closed(c), at.not_in_access(c)];
-            out.into_iter().chain([at.reserved(), at.tied(), at.ready_to_load()]).collect()
-        }),
+        row::CARRIER_OUT => at.with_record(|c| at.carrier_out(c)),
         8 => at.with_record(|c| at.carrier_in(c)),
         9 if at.holds_access() => Grounds::new(),
         9 => [at.reserved(), at.idle()].into(),
         10 if !at.goes_out() => Grounds::new(),
         10 | 11 => [at.reserved(), at.tied(), at.ready_to_load()].into(),
-        12 => [at.tied(), at.is_reserved()].into(),
-        13 => [at.ready_to_load()].into(),
+        12 => [at.kept_for_out(), at.tied(), at.is_reserved()].into(),
+        13 => [at.kept_for_out(), at.ready_to_load()].into(),
         14 | 15 => [at.loading()].into(),
         16 => [at.name_elsewhere()].into_iter().chain(at.readable()).collect(),
         17 => at.readable().into(),
@@ -137,7 +143,22 @@ fn of_row(at: &Standing) -> Grounds {
         23 => at.with_record(|c| [at.not_closed(c), at.not_in_access(c)].into()),
         24 => [at.ready_to_unload()].into(),
         25 | 26 => [at.unloading()].into(),
+        row::OUT_START => {
+            [at.reserved(), at.tied(), at.ready_to_load()].into_iter().chain(at.to_take()).collect()
+        }
+        row::OUT_DONE => [at.is_started()].into(),
+        29 => at.cancel_carrier_out(),
         _ => Grounds::new(),
+    }
+}
+
+fn of_row_by_01(at: &Standing) -> Grounds {
+    match at.number() {
+        row::CARRIER_OUT => at.with_record(|c| {
+            let out = [at.in_buffer(c), at.closed(c), at.not_in_access(c)];
+            out.into_iter().chain([at.reserved(), at.tied(), at.ready_to_load()]).collect()
+        }),
+        _ => of_row(at),
     }
 }
 

@@ -2,6 +2,7 @@
 use crate::entry::{self, About, Entry, Told, HEAD_BYTES};
 use crate::explain::{counted, tool_kind};
 use crate::grounds;
+use crate::numbers::row;
 use crate::print::{self, Answer};
 use crate::progress;
 use crate::run;
@@ -91,11 +92,22 @@ fn refused(tool: &Tool, log: &[u8], refusal: LogRefusal, entries: u64, at: usize
 fn beside(tool: &Tool, number: u64, at: usize, bytes: &[u8], given: &Answer) -> String {
     let before = agreeing(tool, number);
     let Ok(entry) = entry::read(bytes) else { return before };
-    let row = Row::numbered(entry.input.number).map_or("no input has this number", |row| row.text);
-    let input = format!("entry {number} at byte {at}: {}, {row}\n\n", cut(&entry.input.to_string()));
+    let (input, text) = of_document_01(&entry.input);
+    let input = format!("entry {number} at byte {at}: {}, {text}\n\n", cut(&input));
     let head = columns(' ', "the log shows", "document 01 gives");
     let rows: String = rows(&entry, given).iter().map(|(shown, given)| compared(shown, given)).collect();
     before + &input + &head + &rows + "\n" + &causes(tool, &entry.input, given)
+}
+
+/// An input and what it means, as document 01 has it: without the rows of requests and their CarrierOut.
+fn of_document_01(input: &Parts) -> (String, &'static str) {
+    match Row::numbered(input.number) {
+        Some(row) if row.number == row::CARRIER_OUT => {
+            (input.to_string(), "a carrier comes from the buffer to a port")
+        }
+        Some(row) if row.number <= row::LAST_OF_01 => (input.to_string(), row.text),
+        _ => (input.number.to_string(), "no input of document 01 has this number"),
+    }
 }
 
 /// The most reports of an entry that are shown: more than any input gives.
@@ -120,7 +132,7 @@ fn answer(number: u8) -> String {
     let text = match number {
         0 => "accepted",
         _ => Refusal::from_number(number.into())
-            .filter(|refusal| !refusal.is_of_message())
+            .filter(|&refusal| refusal <= Refusal::PlaceOrOpenerTaken)
             .map_or("no answer of document 01", Refusal::text),
     };
     format!("answer {number}: {text}")
@@ -156,7 +168,7 @@ fn state(model: Model, number: u8) -> String {
 /// Why document 01 refuses the input, where that is known: a request may have taken a cause away.
 fn causes(tool: &Tool, input: &Parts, given: &Answer) -> String {
     let causes = |refusal: Refusal| {
-        let grounds = grounds::lowest(tool, input).into_iter();
+        let grounds = grounds::lowest_by_01(tool, input).into_iter();
         grounds.filter(move |ground| ground.cause.refusal() == refusal).map(|ground| {
             let detail =
                 if ground.detail.is_empty() { String::new() } else { format!(": {}", ground.detail) };
@@ -256,7 +268,29 @@ mod tests {
         assert_eq!(row(5, name(), 0, 1), "carrier A\\xff: record made, ID NOT READ");
         assert_eq!(row(7, name(), 2, 0), "carrier A\\xff: record gone, was IN ACCESS");
         assert_eq!(answer(9), "answer 9: no answer of document 01");
+        assert_eq!(answer(14), "answer 14: no answer of document 01");
         assert_eq!(answer(20), "answer 20: no answer of document 01");
+    }
+
+    /// CarrierOut is told as document 01 has it, and so is a number that a request has given a row.
+    #[test]
+    fn inputs_are_document_01s() {
+        let told = |script: &str| {
+            let mut log = log(&format!("setup 2 1\nLoadStart 1\nLoadDone 1\nIdRead 1 A\n{script}"));
+            let answer = log.len() - 2;
+            log[answer] = 0;
+            judged(&log).printed
+        };
+        let stored = "ProceedWithCarrier A 0\nMoveIn 1 1\nReserveAtPort 2\nCarrierOut A 2";
+        let out = told(stored);
+        assert!(out.contains(": CarrierOut(A, 2), a carrier comes from the buffer to a port\n"), "{out}");
+        assert!(out.contains("\ndocument 01 refuses it because the port is reserved: port 2\n"), "{out}");
+        let busy = told(&stored.replace("ReserveAtPort", "LoadStart"));
+        assert!(busy.contains("because the port isn't READY TO LOAD: port 2 is TRANSFER BLOCKED"), "{busy}");
+        let requested = told("in 27 1 0 - -");
+        assert!(requested.contains(": 27, no input of document 01 has this number\n"), "{requested}");
+        let because = "because no input has this number: 27; inputs are 1 to 26\n";
+        assert!(requested.contains(because), "{requested}");
     }
 
     /// 255 reports are read; the first of them are shown.

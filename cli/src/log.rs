@@ -1,9 +1,10 @@
 //! `log`: writes the log of a script, as document 01 answers it.
 use crate::entry::{self, misfit};
-use crate::print::Answer;
+use crate::numbers::row;
+use crate::print::{self, Answer};
 use crate::script::{self, Command, Sent};
-use crate::values::{shown, Words};
-use hawsermole::{judge, Tool, Verdict};
+use crate::values::{self, Words};
+use hawsermole::{judge, Model, Parts, Refusal, Report, Row, Tool, Verdict};
 use std::fs;
 use std::io::{self, ErrorKind, IsTerminal, Read, Write};
 use std::path::Path;
@@ -63,10 +64,12 @@ fn take(run: &mut Option<Run>, line: &[u8]) -> Result<(), String> {
             *run = Some(set_up(ports, places)?);
             return Ok(());
         }
+        (Command::Named(sent), _) if sent.number > row::LAST_OF_01 => return Err(requested(&sent)),
         (Command::In(sent) | Command::Named(sent), _) => sent,
         _ => {
             let word = Words::of(line).next().unwrap_or_default();
-            return Err(format!("'{}' is no input: a log holds a set-up and inputs alone", shown(word)));
+            let word = values::shown(word);
+            return Err(format!("'{word}' is no input: a log holds a set-up and inputs alone"));
         }
     };
     let run = run.as_mut().ok_or("no set-up before it: a log begins with setup P B")?;
@@ -79,6 +82,17 @@ fn take(run: &mut Option<Run>, line: &[u8]) -> Result<(), String> {
     }
 }
 
+/// An input of a request: a script of them is another run than document 01's, and is not taken for it. By its number it
+/// is an entry as of any number that has no row.
+fn requested(sent: &Sent) -> String {
+    let name = Row::numbered(sent.number).map_or("", |row| row.name);
+    format!(
+        "'{name}' is no input of document 01, whose CarrierOut moves the carrier at once: leave it out, \
+         or write in {} .., which is answered 1",
+        sent.number
+    )
+}
+
 fn set_up(ports: u32, places: u32) -> Result<Run, String> {
     match (ports, places) {
         (1..=4, 0..=16) => Ok(Run { ports: ports as u8, places: places as u8, inputs: Vec::new() }),
@@ -86,22 +100,56 @@ fn set_up(ports: u32, places: u32) -> Result<Run, String> {
     }
 }
 
-/// The log that document 01 gives. Each entry is first written as the whole tool answers, requests and all; the judge
-/// names the first that isn't document 01's, and what that should show, and from there on it is done again. So what
-/// comes out is what the judge agrees with, and mostly at the first try.
+/// The log that document 01 gives. Each entry is first written as the whole tool answers; the judge names the first that
+/// isn't document 01's, and what that should show, and from there on it is done again. So what comes out is what the
+/// judge agrees with, and mostly at the first try.
 fn log_of(run: &Run) -> Vec<u8> {
     let mut log = entry::head(run.ports, run.places);
     let mut left = run.inputs.iter();
     let mut judged = Tool::none();
     judge(&log, &mut judged);
     loop {
-        let mut tool = judged.clone();
-        for sent in left {
-            let answer = tool.step_parts(&sent.parts());
-            entry::write(&mut log, sent, &answer);
-        }
+        write_guesses(&mut log, judged.clone(), left);
         let Verdict::Disagrees { entry, at, given } = judge(&log, &mut judged) else { return log };
         left = correct(&mut log, run, entry as usize, at, &given);
+    }
+}
+
+fn write_guesses<'a>(log: &mut Vec<u8>, mut tool: Tool, inputs: impl Iterator<Item = &'a Sent>) {
+    for sent in inputs {
+        let (answer, reports) = guess(&mut tool, sent);
+        entry::write(log, sent, answer, &reports);
+    }
+}
+
+/// What document 01 will give, by the whole tool: its answer but for CarrierOut, and 1 to the rows of requests.
+fn guess(tool: &mut Tool, sent: &Sent) -> (u8, Vec<Report>) {
+    let given = match sent.number {
+        row::CARRIER_OUT => return moved(tool, sent),
+        number if number > row::LAST_OF_01 => Err(Refusal::OutOfRange),
+        _ => tool.step_parts(&sent.parts()),
+    };
+    shown(&given)
+}
+
+fn shown(given: &Answer) -> (u8, Vec<Report>) {
+    (print::answer(given), print::reports(given).collect())
+}
+
+/// CarrierOut as document 01 has it is three inputs here, of which the first that is refused refuses it. The
+/// reservation between them isn't seen.
+fn moved(tool: &mut Tool, sent: &Sent) -> (u8, Vec<Report>) {
+    let mut after = tool.clone();
+    let port = |number| Parts { number, port: sent.port, ..Parts::default() };
+    let steps = [sent.parts(), port(row::OUT_START), port(row::OUT_DONE)];
+    let given: Result<Vec<_>, Refusal> = steps.iter().map(|parts| after.step_parts(parts)).collect();
+    match given {
+        Err(refusal) => (refusal.number(), Vec::new()),
+        Ok(mut given) => {
+            *tool = after;
+            let last = given.pop().unwrap_or_default();
+            (0, last.filter(|report| report.model != Model::Reservation).collect())
+        }
     }
 }
 
@@ -114,7 +162,8 @@ fn correct<'a>(
     given: &Answer,
 ) -> std::slice::Iter<'a, Sent> {
     log.truncate(at);
-    entry::write(log, &run.inputs[number], given);
+    let (answer, reports) = shown(given);
+    entry::write(log, &run.inputs[number], answer, &reports);
     run.inputs[number + 1..].iter()
 }
 
@@ -148,6 +197,57 @@ pub mod tests {
         assert_eq!(judge(&padded, &mut Tool::none()), Verdict::Agrees { entries: 4 });
         let many = format!("setup 1 0\n{}LoadStart 1", "in 3 0 0 414220 -\n".repeat(100));
         assert_eq!(judge(&log(&many), &mut Tool::none()), Verdict::Agrees { entries: 101 });
+    }
+
+    const STORED: &str =
+        "setup 2 2\nLoadStart 1\nLoadDone 1\nIdRead 1 A\nProceedWithCarrier A 0\nMoveIn 1 1\n";
+
+    fn holds(log: &[u8], entry: &[u8]) -> bool {
+        log.windows(entry.len()).any(|part| part == entry)
+    }
+
+    /// No queue: CarrierOut moves the carrier at once, and is refused where the port is taken.
+    #[test]
+    fn carriers_come_out_at_once() {
+        let outs = log(&format!("{STORED}CarrierOut A 2\nCarrierIn A\nCarrierOut A 1\nUnloadStart 2"));
+        let moved = b"\x07\x02\0\x01A\0\x02\x01\x02\x01\x02\x04\x02\0\x01";
+        assert!(holds(&outs, moved), "{outs:?}");
+        assert_eq!(judge(&outs, &mut Tool::none()), Verdict::Agrees { entries: 9 });
+        let busy =
+            log(&format!("{STORED}LoadStart 2\nCarrierOut A 2\nReserveAtPort 1\nCarrierOut A 1\nOpen A"));
+        assert!(holds(&busy, b"\x07\x02\0\x01A\x05\0") && holds(&busy, b"\x07\x01\0\x01A\x04\0"), "{busy:?}");
+        assert_eq!(judge(&busy, &mut Tool::none()), Verdict::Agrees { entries: 10 });
+    }
+
+    /// A long log with many CarrierOuts would take long if each were corrected.
+    #[test]
+    fn carriers_come_out_at_the_first_try() {
+        let outs =
+            "CarrierOut A 2\nCarrierIn A\nMoveIn 2 1\nReserveAtPort 1\nCarrierOut A 1\nin 30 0 0 - -\n\
+                    CancelReservationAtPort 1\n";
+        let run = read(format!("{STORED}{}", outs.repeat(3)).as_bytes()).unwrap();
+        let mut log = entry::head(2, 2);
+        write_guesses(&mut log, Tool::setup(2, 2).unwrap(), run.inputs.iter());
+        assert_eq!(judge(&log, &mut Tool::none()), Verdict::Agrees { entries: 26 });
+    }
+
+    /// By their numbers the inputs of requests are entries, which document 01 answers 1.
+    #[test]
+    fn inputs_of_requests_are_named() {
+        let told = error("setup 1 1\nOutStart 1");
+        let expected =
+            "line 2: 'OutStart' is no input of document 01, whose CarrierOut moves the carrier at once: \
+                        leave it out, or write in 27 .., which is answered 1";
+        assert_eq!(told, expected);
+        for line in ["OutDone 1", "CancelCarrierOut A", "CancelAllCarrierOut"] {
+            assert!(
+                error(&format!("setup 1 1\n{line}")).contains("' is no input of document 01, "),
+                "{line}"
+            );
+        }
+        let numbered = log(&format!("{STORED}in 27 1 0 - -\nin 30 0 0 - -\nin 31 0 0 - -"));
+        assert_eq!(numbered[numbered.len() - 18..], *b"\x1B\x01\0\0\x01\0\x1E\0\0\0\x01\0\x1F\0\0\0\x01\0");
+        assert_eq!(judge(&numbered, &mut Tool::none()), Verdict::Agrees { entries: 8 });
     }
 
     #[test]

@@ -18,6 +18,7 @@ mod people;
 mod player;
 mod print;
 mod progress;
+mod queue;
 mod reply;
 mod run;
 #[cfg(test)]

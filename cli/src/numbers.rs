@@ -1,4 +1,4 @@
-//! Document 01's numbers, by name.
+//! The documents' numbers, by name.
 
 /// Transfer state of a port.
 pub mod transfer {
@@ -40,6 +40,22 @@ pub mod status {
 pub mod accessing {
     pub const NOT_ACCESSED: u8 = 1;
     pub const IN_ACCESS: u8 = 2;
+}
+
+/// State of a request of CarrierOut.
+pub mod request {
+    pub const STARTED: u8 = 1;
+}
+
+/// Rows that are told apart.
+pub mod row {
+    pub const CANCEL_CARRIER: u32 = 6;
+    pub const CARRIER_OUT: u32 = 7;
+    pub const OUT_START: u32 = 27;
+    pub const OUT_DONE: u32 = 28;
+    pub const CANCEL_ALL_CARRIER_OUT: u32 = 30;
+    /// The last row of document 01.
+    pub const LAST_OF_01: u32 = 26;
 }
 
 /// The most carriers that are expected.

@@ -170,6 +170,7 @@ reply prints   reply 0 REPLY, or reply 14 -
 dump prints    port I TRANSFER ACCESS RESERVED TIE MOVEMENT POD TAG
                rec NAME PLACE SPOT PORT OPEN CANCELLED CAME-OUT CODES ID SLOT ACCESSING
                map NAME CODES   for each record with an expected map
+               out NAME PORT STARTED   for each CarrierOut that is queued, the oldest first
                end
 waiting prints waiting POSITION READ, or waiting none READ   the place of the first record, from 0,
                whose carrier waits for the host, and how many records were read to know
@@ -266,6 +267,7 @@ mod tests {
         let help = help();
         assert!(ROWS.iter().all(|row| help.contains(&format!("  {} ", row.name))));
         assert!(help.contains("\n   8  the buffer place is taken, or the opener is in use\n"));
+        assert!(help.contains("\n  10  CarrierOut is queued already\n"));
         assert!(help.contains("\n  26  another shape or action\n"));
         assert!(help.ends_with("\n  29  the log is cut short\n"));
     }

@@ -1,9 +1,9 @@
 //! The tool for people: what `state` prints.
 use crate::explain::tool_kind;
 use crate::soundness;
-use hawsermole::{words, Carrier, Port, Tool};
+use hawsermole::{words, Carrier, Port, Request, Tool};
 
-/// A line for the tool, for each port and for each carrier.
+/// A line for the tool, for each port, for each carrier and for each CarrierOut that is queued, the oldest first.
 pub fn state(tool: &Tool) -> String {
     if *tool == Tool::none() {
         return "there is no tool: set one up with setup P B\n".into();
@@ -11,8 +11,9 @@ pub fn state(tool: &Tool) -> String {
     let ports: String = tool.ports().map(port).collect();
     let carriers: String = tool.carriers().map(|of| carrier(tool, of)).collect();
     let carriers = if carriers.is_empty() { "no carriers\n".into() } else { carriers };
+    let requests: String = tool.requests().map(|of| format!("CarrierOut of {}\n", request(&of))).collect();
     let fault = soundness::fault(tool).map_or(String::new(), |fault| format!("not sound, {fault}\n"));
-    format!("{}\n", tool_kind(tool)) + &fault + &ports + &carriers
+    format!("{}\n", tool_kind(tool)) + &fault + &ports + &carriers + &requests
 }
 
 fn port(port: Port) -> String {
@@ -61,6 +62,11 @@ fn codes(map: &[u8]) -> String {
     map.iter().map(|code| code.to_string()).collect()
 }
 
+/// `AB to port 1, queued`.
+pub fn request(Request { name, port, started }: &Request) -> String {
+    format!("{name} to port {port}, {}", words::request(*started))
+}
+
 /// `expected at port 1`, `at port 1`, `in buffer place 2`.
 pub fn place(carrier: &Carrier) -> String {
     match (carrier.place, carrier.port) {
@@ -74,7 +80,7 @@ pub fn place(carrier: &Carrier) -> String {
 #[cfg(test)]
 mod tests {
     use super::*;
-    use crate::print::tests::tool;
+    use crate::print::tests::{stored, tool};
     use hawsermole::{ExpectedMap, Input};
 
     fn after(ports: u32, places: u32, inputs: &[Input]) -> String {
@@ -135,7 +141,26 @@ mod tests {
         let open = "carrier AB: in buffer place 2, open, ID VERIFICATION OK, SLOT MAP WAITING FOR HOST, NOT ACCESSED, \
                     slot map 3333333333333333333333333\n";
         assert!(after(1, 2, &inputs).ends_with(open));
-        inputs.extend([Input::CancelCarrier { name, port: 0 }, Input::CarrierOut { name, port: 1 }]);
+        inputs.extend([
+            Input::CancelCarrier { name, port: 0 },
+            Input::CarrierOut { name, port: 1 },
+            Input::OutStart { port: 1 },
+            Input::OutDone { port: 1 },
+        ]);
         assert!(after(1, 2, &inputs).contains("NOT ACCESSED, cancelled, came out, slot map 3"));
+    }
+
+    #[test]
+    fn requests_stand_last() {
+        let mut tool = stored(2, &[b"A", b"B"]);
+        for input in [
+            Input::CarrierOut { name: b"B", port: 1 },
+            Input::CarrierOut { name: b"A", port: 2 },
+            Input::OutStart { port: 2 },
+        ] {
+            tool.step(&input).unwrap();
+        }
+        let queue = "\nCarrierOut of B to port 1, queued\nCarrierOut of A to port 2, started\n";
+        assert!(state(&tool).ends_with(queue), "{}", state(&tool));
     }
 }

@@ -75,24 +75,25 @@ impl Player {
     }
 
     fn input(&mut self, sent: &Sent, print: fn(&Answer) -> String) -> String {
-        let parts = sent.parts();
+        let (parts, before) = (sent.parts(), self.tool.clone());
         let answer = self.tool.step_parts(&parts);
         let printed = print(&answer);
         match self.explain {
-            true => printed + &explain::answer(&self.tool, &parts, &answer),
+            true => printed + &explain::answer(&before, &self.tool, &parts, &answer),
             false => printed,
         }
     }
 
     /// What was read, and where that was good the input's answer as `in` prints it.
     fn secs(&mut self, bytes: &[u8]) -> String {
+        let before = self.tool.clone();
         let Bridged { answer, items } = self.tool.secs_step(bytes);
         let refusal = answer.as_ref().err().copied().filter(|refusal| refusal.is_of_message());
         let mut printed = format!("secs {} {items}\n", refusal.map_or(0, |refusal| refusal.number()));
         if self.explain {
             printed += &message::read(bytes, items, refusal);
         }
-        printed + &self.stepped(bytes, items, &answer)
+        printed + &self.stepped(&before, bytes, items, &answer)
     }
 
     /// The same with its reply, which stands on the first line.
@@ -104,22 +105,25 @@ impl Player {
             let refusal = answer.as_ref().err().copied().filter(|refusal| refusal.is_of_message());
             printed += &message::read(bytes, items, refusal);
             printed += &match answer {
-                Err(Refusal::RoomTooSmall) => reply::not_exchanged(before, bytes, room),
+                Err(Refusal::RoomTooSmall) => reply::not_exchanged(before.clone(), bytes, room),
                 _ => reply::read(reply),
             };
         }
-        printed + &self.stepped(bytes, items, &answer)
+        printed + &self.stepped(&before, bytes, items, &answer)
     }
 
     /// The answer of the input that a message asked for; nothing where the tool got none.
-    fn stepped(&self, bytes: &[u8], items: u32, answer: &Answer) -> String {
+    fn stepped(&self, before: &Tool, bytes: &[u8], items: u32, answer: &Answer) -> String {
         if answer.as_ref().is_err_and(|refusal| refusal.is_of_message() || *refusal == Refusal::RoomTooSmall)
         {
             return String::new();
         }
         let printed = print::numbered(answer);
         match self.explain {
-            true => printed + &explain::answer(&self.tool, &message::asked(bytes, items).parts(), answer),
+            true => {
+                let asked = message::asked(bytes, items);
+                printed + &explain::answer(before, &self.tool, &asked.parts(), answer)
+            }
             false => printed,
         }
     }

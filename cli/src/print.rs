@@ -1,5 +1,5 @@
 //! The printers: answers, reports and the state in the forms that programs read.
-use hawsermole::{Carrier, Name, Port, Refusal, Report, Reports, Subject, Tool, Waiting};
+use hawsermole::{Carrier, Name, Port, Refusal, Report, Reports, Request, Subject, Tool, Waiting};
 
 /// What the machine answers to an input.
 pub type Answer = Result<Reports, Refusal>;
@@ -54,13 +54,18 @@ pub fn waiting(Waiting { first, read }: Waiting) -> String {
     format!("waiting {first} {read}\n")
 }
 
-/// The whole state: a line for each port, for each record and for each expected map, `end`.
+/// The whole state: a line for each port, record, expected map and request of CarrierOut, `end`.
 pub fn dump(tool: &Tool) -> String {
     let ports: String = tool.ports().map(port_line).collect();
     let records: String = tool.carriers().map(record_line).collect();
     let maps: String =
         tool.expected_maps().map(|(of, map)| format!("map {} {}\n", name(of), hex(map))).collect();
-    ports + &records + &maps + "end\n"
+    let requests: String = tool.requests().map(request_line).collect();
+    ports + &records + &maps + &requests + "end\n"
+}
+
+fn request_line(request: Request) -> String {
+    format!("out {} {} {}\n", name(request.name), request.port, request.started)
 }
 
 fn port_line(port: Port) -> String {
@@ -104,6 +109,23 @@ pub mod tests {
         let mut tool = Tool::setup(ports, places).unwrap();
         for input in inputs {
             tool.step(input).unwrap();
+        }
+        tool
+    }
+
+    /// A tool with these carriers in the places of its buffer from 1 on, all of them brought in through port 1.
+    pub fn stored(ports: u32, names: &[&[u8]]) -> Tool {
+        let mut tool = Tool::setup(ports, names.len() as u32).unwrap();
+        for (place, name) in (1..).zip(names) {
+            for input in [
+                Input::LoadStart { port: 1 },
+                Input::LoadDone { port: 1 },
+                Input::IdRead { port: 1, name },
+                Input::ProceedWithCarrier { name, port: 1 },
+                Input::MoveIn { port: 1, place },
+            ] {
+                tool.step(&input).unwrap();
+            }
         }
         tool
     }
@@ -179,6 +201,23 @@ pub mod tests {
         let records = "rec 42 0 0 0 0 0 0 - 1 1 1\nrec 43 0 0 0 0 0 0 - 1 1 1\nrec 41 0 0 1 0 0 0 - 1 1 1\n";
         let maps = format!("map 42 {}\nmap 41 {}\n", "01".repeat(25), "03".repeat(25));
         assert_eq!(dump(&tool(1, 0, &inputs)), format!("port 1 1 0 1 41 0 0 0\n{records}{maps}end\n"));
+    }
+
+    /// The oldest first, after the maps.
+    #[test]
+    fn dumps_of_a_queue() {
+        let mut tool = stored(2, &[b"A", b"B", b"C"]);
+        let map = ExpectedMap::new(&[3; 25]).unwrap();
+        for input in [
+            Input::CarrierNotificationWithMap { name: b"D", map },
+            Input::CarrierOut { name: b"C", port: 1 },
+            Input::CarrierOut { name: b"A", port: 2 },
+            Input::OutStart { port: 2 },
+        ] {
+            tool.step(&input).unwrap();
+        }
+        let end = format!("map 44 {}\nout 43 1 0\nout 41 2 1\nend\n", "03".repeat(25));
+        assert!(dump(&tool).ends_with(&end), "{}", dump(&tool));
     }
 
     #[test]

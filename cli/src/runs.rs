@@ -1,6 +1,6 @@
 //! What tests run on: every state that runs of a small tool reach, the states of a long run, and odd ones.
 use crate::script::Sent;
-use hawsermole::{Argument, Tool, ROWS, SLOTS, TOOL_BYTES};
+use hawsermole::{Argument, Tool, REQUESTS, ROWS, SLOTS, TOOL_BYTES};
 use std::collections::BTreeSet;
 
 /// Numbers that look like chance and are the same in every test.
@@ -94,13 +94,17 @@ pub fn reached(ports: u32, places: u32, inputs: &[Sent], most: usize) -> Vec<Too
     states
 }
 
-/// The bytes of a tool that its ports and its first few records use.
+/// Where the queue begins: the number of requests.
+const QUEUE: usize = 2791;
+
+/// The bytes of a tool that its ports, its first few records and its first few requests use.
 fn key(tool: &Tool) -> Vec<u8> {
-    [&tool.as_bytes()[..91], tool.records().concat().as_slice(), &tool.as_bytes()[1891..1966]].concat()
+    let bytes = tool.as_bytes();
+    [&bytes[..91], tool.records().concat().as_slice(), &bytes[1891..1966], &bytes[QUEUE..QUEUE + 55]].concat()
 }
 
 /// Rows that take back, turn away or let go: drawn less often, so that a run fills its tool.
-const BACKWARD: [u32; 8] = [2, 4, 6, 10, 12, 15, 24, 26];
+const BACKWARD: [u32; 10] = [2, 4, 6, 10, 12, 15, 24, 26, 29, 30];
 
 /// The states of one long run.
 pub fn long_run(ports: u32, places: u32, inputs: &[Sent], steps: usize, dice: &mut Dice) -> Vec<Tool> {
@@ -120,10 +124,12 @@ pub fn long_run(ports: u32, places: u32, inputs: &[Sent], steps: usize, dice: &m
 pub fn damaged(tool: &Tool, dice: &mut Dice) -> Tool {
     let mut bytes = *tool.as_bytes();
     for _ in 0..1 + dice.below(3) {
-        match dice.below(4) {
+        match dice.below(6) {
             0 => bytes[dice.below(TOOL_BYTES)] = dice.below(256) as u8,
             1 => bytes[1891 + dice.below(75)] = dice.below(5) as u8,
             2 => change_port(&mut bytes, 3 + 22 * dice.below(tool.ports().len()), dice),
+            3 if tool.requests().len() > 0 => change_request(&mut bytes, tool, dice),
+            3 | 4 => add_request(&mut bytes, tool, dice),
             _ if tool.records().is_empty() => bytes[91 + dice.below(50)] = 1,
             _ => change_record(&mut bytes, tool, dice),
         }
@@ -134,6 +140,31 @@ pub fn damaged(tool: &Tool, dice: &mut Dice) -> Tool {
 fn change_port(bytes: &mut [u8; TOOL_BYTES], start: usize, dice: &mut Dice) {
     let (offset, values) = *dice.one(&[(0, 4), (0, 4), (1, 2), (2, 2), (19, 3), (20, 2), (21, 3), (3, 128)]);
     bytes[start + offset] = dice.below(values) as u8;
+}
+
+/// A carrier of the table is queued, in the buffer or not, queued already or not, started or not.
+fn add_request(bytes: &mut [u8; TOOL_BYTES], tool: &Tool, dice: &mut Dice) {
+    let (requests, records) = (tool.requests().len(), tool.records().len());
+    if requests == REQUESTS || records == 0 {
+        return;
+    }
+    let (start, record) = (QUEUE + 1 + 18 * requests, 91 + 50 * dice.below(records));
+    bytes.copy_within(record..record + 16, start);
+    bytes[start + 16] = 1 + dice.below(tool.ports().len()) as u8;
+    bytes[start + 17] = dice.below(2) as u8;
+    bytes[QUEUE] = requests as u8 + 1;
+}
+
+fn change_request(bytes: &mut [u8; TOOL_BYTES], tool: &Tool, dice: &mut Dice) {
+    let start = QUEUE + 1 + 18 * dice.below(tool.requests().len());
+    let record = 91 + 50 * dice.below(tool.records().len().max(1));
+    match dice.below(5) {
+        0 => bytes.copy_within(record..record + 16, start),
+        1 => bytes[start + 16] = dice.below(tool.ports().len() + 2) as u8,
+        2 => bytes[start + 17] = dice.below(3) as u8,
+        3 => bytes[QUEUE] = dice.below(REQUESTS + 2) as u8,
+        _ => bytes[start + dice.below(16)] = dice.below(128) as u8,
+    }
 }
 
 fn change_record(bytes: &mut [u8; TOOL_BYTES], tool: &Tool, dice: &mut Dice) {

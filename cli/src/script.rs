@@ -59,8 +59,9 @@ impl Sent {
     }
 }
 
-const COMMANDS: [&str; 12] =
-    ["setup", "in", "secs", "exchange", "reply", "dump", "state", "waiting", "save", "load", "undo", "expect"];
+const COMMANDS: [&str; 12] = [
+    "setup", "in", "secs", "exchange", "reply", "dump", "state", "waiting", "save", "load", "undo", "expect",
+];
 const SETUP: &str = "setup P B";
 const IN: &str = "in NUMBER PORT VALUE NAME CODES";
 const SECS: &str = "secs HEX";
@@ -242,7 +243,7 @@ mod tests {
         assert_eq!(read(b"in 4294967295 0 0 - -"), Ok(Command::In(sent(u32::MAX, 0, 0, b"", b""))));
     }
 
-    /// Each named input with its arguments in document 01's order.
+    /// Each named input with its arguments in the documents' order.
     #[test]
     #[rustfmt::skip]
     fn every_named_input() {
@@ -276,6 +277,10 @@ mod tests {
         assert_eq!(named("UnloadStart 1"), sent(24, 1, 0, b"", b""));
         assert_eq!(named("UnloadDone 1"), sent(25, 1, 0, b"", b""));
         assert_eq!(named("UnloadFail 1"), sent(26, 1, 0, b"", b""));
+        assert_eq!(named("OutStart 1"), sent(27, 1, 0, b"", b""));
+        assert_eq!(named("OutDone 1"), sent(28, 1, 0, b"", b""));
+        assert_eq!(named("CancelCarrierOut AB"), sent(29, 0, 0, b"AB", b""));
+        assert_eq!(named("CancelAllCarrierOut"), sent(30, 0, 0, b"", b""));
     }
 
     #[test]
@@ -312,6 +317,7 @@ mod tests {
 
     #[test]
     fn words_too_many() {
+        assert_eq!(error("CancelAllCarrierOut 1"), "'1' is one word too many: expected CancelAllCarrierOut");
         assert_eq!(error("Open AB # now"), "'#' is one word too many: expected Open NAME");
         assert_eq!(error("Bind 1 AB - -"), "'-' is one word too many: expected Bind PORT NAME [MAP]");
         assert_eq!(error("secs 01 00"), "'00' is one word too many: expected secs HEX");

@@ -1,11 +1,13 @@
-//! Why a tool isn't sound: the first clause of document 01's list that doesn't hold, and where it doesn't. Whether a
-//! tool is sound is the archive's to say.
+//! Why a tool isn't sound: the first clause of document 01's list and request P5's that doesn't hold, and where it
+//! doesn't. Whether a tool is sound is the archive's to say.
 use crate::fields::{out_of_range, unused};
 use crate::numbers::{movement, place, transfer, MOST_EXPECTED};
 use hawsermole::{words, Carrier, Port, Tool};
 use std::fmt;
 
-/// A clause of document 01's list, in its order.
+mod queue;
+
+/// A clause of document 01's list, in its order, and then of request P5's.
 #[derive(Clone, Copy, Debug, PartialEq, Eq)]
 pub enum Clause {
     InRange,
@@ -17,10 +19,15 @@ pub enum Clause {
     FewExpected,
     PortsAgree,
     OpenAgrees,
+    QueuedStored,
+    QueuedOnce,
+    StartedShut,
+    StartedAlone,
+    PortKept,
 }
 
 impl Clause {
-    /// In document 01's words.
+    /// In the documents' words.
     pub const fn text(self) -> &'static str {
         match self {
             Clause::InRange => "every field is in its range",
@@ -35,6 +42,13 @@ impl Clause {
                  and one that is out of service, READY TO LOAD or loading has no pod"
             }
             Clause::OpenAgrees => "an open carrier is in the buffer or at an idle BLOCKED port",
+            Clause::QueuedStored => "a carrier whose CarrierOut is queued is in the buffer",
+            Clause::QueuedOnce => "no carrier's CarrierOut is queued twice",
+            Clause::StartedShut => "a carrier whose CarrierOut is started is closed and not in access",
+            Clause::StartedAlone => "a CarrierOut that is started is alone for its port",
+            Clause::PortKept => {
+                "the port of a CarrierOut that is started is untied, reserved and READY TO LOAD"
+            }
         }
     }
 }
@@ -57,7 +71,7 @@ impl fmt::Display for Fault {
 type Test = fn(&Tool) -> Option<String>;
 
 /// Each looks at what the ones before it have let through.
-const CLAUSES: [(Clause, Test); 9] = [
+const CLAUSES: [(Clause, Test); 14] = [
     (Clause::InRange, out_of_range),
     (Clause::UnusedZero, unused),
     (Clause::NamesDiffer, same_names),
@@ -67,6 +81,11 @@ const CLAUSES: [(Clause, Test); 9] = [
     (Clause::FewExpected, many_expected),
     (Clause::PortsAgree, ports_at_odds),
     (Clause::OpenAgrees, open_elsewhere),
+    (Clause::QueuedStored, queue::not_stored),
+    (Clause::QueuedOnce, queue::twice),
+    (Clause::StartedShut, queue::not_shut),
+    (Clause::StartedAlone, queue::not_alone),
+    (Clause::PortKept, queue::not_kept),
 ];
 
 /// The first clause that doesn't hold; none of a sound tool.
@@ -151,7 +170,7 @@ fn open_elsewhere(tool: &Tool) -> Option<String> {
 #[cfg(test)]
 mod tests {
     use super::*;
-    use crate::print::tests::tool;
+    use crate::print::tests::{stored, tool};
     use crate::runs::{damaged, inputs, long_run, Dice};
     use hawsermole::Input;
 
@@ -167,7 +186,7 @@ mod tests {
     fn a_clause_is_named_where_a_tool_is_not_sound() {
         let mut dice = Dice::new(1);
         let mut met = [0; CLAUSES.len() + 1];
-        for (ports, places) in [(1, 0), (2, 0), (2, 2), (4, 16)] {
+        for (ports, places) in [(1, 0), (2, 0), (2, 2), (2, 3), (4, 16)] {
             let inputs = inputs(ports, places, &[b"A", b"B", b"C", b"DD"], false);
             for tool in long_run(ports, places, &inputs, 3000, &mut dice) {
                 assert_eq!(judged(&tool), None);
@@ -233,6 +252,7 @@ mod tests {
             told(&tool, &[(1916, 1)]),
             format!("{zero} (byte 1916 is 1, and part of no record's map)")
         );
+        assert_eq!(told(&tool, &[(2792, 65)]), format!("{zero} (byte 2792 is 65, and part of no request)"));
         assert_eq!(told(&tool, &[(3781, 9)]), format!("{zero} (byte 3781 is 9, and part of nothing)"));
         assert!(fault(&Tool::none()).unwrap().to_string().ends_with("(ports 0, not 1 to 4 (byte 0))"));
     }
@@ -269,6 +289,50 @@ mod tests {
         );
         let expected = tool(1, 0, &[Input::CarrierNotification { name: A }]);
         says(told(&expected, &[(110, 1)]), "carrier A is open and expected");
+    }
+
+    /// A in place 1 is on its way to port 1; B in place 2 is queued behind it.
+    fn queued() -> Tool {
+        let mut tool = stored(2, &[A, b"B", b"C"]);
+        for input in [
+            Input::CarrierOut { name: A, port: 1 },
+            Input::CarrierOut { name: b"B", port: 1 },
+            Input::OutStart { port: 1 },
+        ] {
+            tool.step(&input).unwrap();
+        }
+        tool
+    }
+
+    #[test]
+    fn requests_out_of_range_are_named_with_their_bytes() {
+        let range = "not so: every field is in its range";
+        let told = |changes: &[(usize, u8)]| told(&queued(), changes);
+        let many = "requests of CarrierOut 17, not 0 to 16 (byte 2791)";
+        assert_eq!(told(&[(2791, 17)]), format!("{range} ({many})"));
+        assert_eq!(told(&[(2826, 3)]), format!("{range} (request 2: port 3, not 1 to 2 (byte 2826))"));
+        assert_eq!(told(&[(2809, 2)]), format!("{range} (request 1: started 2, not 0 to 1 (byte 2809))"));
+    }
+
+    #[test]
+    fn requests_that_disagree_are_named() {
+        let told = |changes: &[(usize, u8)]| told(&queued(), changes);
+        let stored = "not so: a carrier whose CarrierOut is queued is in the buffer";
+        assert_eq!(told(&[(2810, b'Z')]), format!("{stored} (request 2: Z has no record)"));
+        assert_eq!(told(&[(2810, 0)]), format!("{stored} (request 2: - has no record)"));
+        assert_eq!(told(&[(157, 0), (158, 0)]), format!("{stored} (request 2: B is expected)"));
+        let twice = "not so: no carrier's CarrierOut is queued twice (requests 1 and 2 are both of A)";
+        assert_eq!(told(&[(2810, b'A')]), twice);
+        let shut = "not so: a carrier whose CarrierOut is started is closed and not in access";
+        assert_eq!(told(&[(110, 1)]), format!("{shut} (A is open)"));
+        assert_eq!(told(&[(140, 2)]), format!("{shut} (A is IN ACCESS)"));
+        let alone = "not so: a CarrierOut that is started is alone for its port";
+        assert_eq!(told(&[(2827, 1)]), format!("{alone} (A and B are both started to port 1)"));
+        let kept = "not so: the port of a CarrierOut that is started is untied, reserved and READY TO LOAD";
+        let free = "port 1 of A is READY TO LOAD, NOT RESERVED, NOT ASSOCIATED";
+        assert_eq!(told(&[(5, 0)]), format!("{kept} ({free})"));
+        let out = "port 1 of A is OUT OF SERVICE, RESERVED, NOT ASSOCIATED";
+        assert_eq!(told(&[(3, 0)]), format!("{kept} ({out})"));
     }
 
     #[test]

@@ -6,6 +6,8 @@ use crate::numbers::{accessing, movement, place, status, tag, transfer, MOST_EXP
 use crate::people;
 use hawsermole::{words, Carrier, Name, Parts, Port, Tool};
 
+mod queue;
+
 /// The questions of a row, in its order.
 pub type Grounds = Vec<Option<Ground>>;
 
@@ -73,8 +75,13 @@ fn access(carrier: &Carrier) -> String {
 
 /// Of the given port.
 impl Standing<'_> {
+    /// Of a port that is kept for a carrier it is told so.
     pub fn reserved(&self) -> Option<Ground> {
-        ground(self.port().reserved != 0, Cause::Reserved, format!("port {}", self.port().number))
+        let reserved = || {
+            let port = self.port();
+            ground(port.reserved != 0, Cause::Reserved, format!("port {}", port.number))
+        };
+        self.kept_for_out().or_else(reserved)
     }
 
     pub fn is_reserved(&self) -> Option<Ground> {
@@ -320,15 +327,16 @@ fn id_ok(carrier: &Carrier) -> Option<Ground> {
 
 /// Of a carrier that is opened, mapped, accessed and closed.
 impl Standing<'_> {
-    /// 5 unless closed, NOT ACCESSED and in the buffer, or, when B = 0, at an idle BLOCKED port; 7 if ID isn't OK, slot
-    /// status is FAILED, or it is cancelled; 8 if B > 0 and another is open.
+    /// 5 unless closed, NOT ACCESSED and in the buffer, or, when B = 0, at an idle BLOCKED port, and if its CarrierOut is
+    /// started; 7 if ID isn't OK, slot status is FAILED, or it is cancelled; 8 if B > 0 and another is open.
     pub fn open(&self, carrier: &Carrier) -> Grounds {
         let name = carrier.name.to_string();
         let already = ground(carrier.open != 0, Cause::OpenAlready, name.clone());
         let failed = ground(carrier.slot == status::FAILED, Cause::SlotMapFailed, name.clone());
         let cancelled = ground(carrier.cancelled != 0, Cause::Cancelled, name);
         let verified = [id_ok(carrier), failed, cancelled, self.opener_in_use(carrier)];
-        let accessed = [already, self.not_in_access(carrier), self.not_accessed(carrier)];
+        let accessed =
+            [already, self.not_in_access(carrier), self.not_accessed(carrier), self.not_on_its_way()];
         accessed.into_iter().chain(self.where_it_opens(carrier)).chain(verified).collect()
     }
 

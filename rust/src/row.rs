@@ -148,16 +148,10 @@ pub const ROWS: [Row; 30] = [
     row(24, "UnloadStart", &[Port], "a pod starts to leave").needs("the port READY TO UNLOAD"),
     row(25, "UnloadDone", &[Port], "the pod has left").needs("the port unloading"),
     row(26, "UnloadFail", &[Port], "the pod didn't leave").needs("the port unloading"),
-    row(
-        27,
-        "OutStart",
-        &[Port],
-        "start the oldest CarrierOut that is ready for a port, and reserve the port",
-    )
-    .needs(
+    row(27, "OutStart", &[Port], "start the oldest CarrierOut that is ready for a port").needs(
         "the port READY TO LOAD, and a CarrierOut queued for it whose carrier is closed and not IN ACCESS",
     ),
-    row(28, "OutDone", &[Port], "the carrier has come out of the buffer and stands on the port")
+    row(28, "OutDone", &[Port], "the carrier has come out and stands on the port")
         .needs("a CarrierOut started to the port"),
     row(29, "CancelCarrierOut", &[Name], "take a carrier's CarrierOut back")
         .needs("the carrier's CarrierOut queued and not started"),

@@ -1,9 +1,9 @@
 //! The causes that are named are held to the machine's answers and to the state.
 use super::*;
-use crate::print::tests::tool;
+use crate::print::tests::{stored, tool};
 use crate::runs::{damaged, inputs, long_run, reached, Dice};
 use crate::script::Sent;
-use hawsermole::{Carrier, Input, Port};
+use hawsermole::{Carrier, Input, Port, Request};
 
 /// What a cause says, read off the tool: port and carrier are those of the input.
 struct Seen<'a> {
@@ -67,6 +67,21 @@ impl Seen<'_> {
         asked.is_some_and(|carrier| test(&carrier))
     }
 
+    /// Of a request that is queued.
+    fn requested(&self, test: impl Fn(&Request) -> bool) -> bool {
+        self.tool.requests().any(|request| test(&request))
+    }
+
+    /// Of the carrier; in OutStart of one that is queued for the port.
+    fn carrier_or_queued(&self, test: impl Fn(&Carrier) -> bool) -> bool {
+        let port = self.parts.port;
+        let queued = |c: &Carrier| self.requested(|r| r.name == c.name && u32::from(r.port) == port);
+        match self.parts.number {
+            27 => self.carriers.iter().any(|carrier| queued(carrier) && test(carrier)),
+            _ => self.carrier(test),
+        }
+    }
+
     fn no_carrier_here(&self) -> bool {
         !self.held.is_some_and(|carrier| carrier.place == 1)
     }
@@ -82,7 +97,7 @@ fn holds_of_parts(cause: Cause, at: &Seen) -> bool {
     match cause {
         Cause::NoTool => at.ports == 0 && !at.tool.is_sound(),
         Cause::NotSound => at.ports != 0 && !at.tool.is_sound(),
-        Cause::NoInput => !(1..=26).contains(number),
+        Cause::NoInput => !(1..=30).contains(number),
         Cause::Port => *port > at.ports || (*port == 0 && ![2, 5, 6].contains(number)),
         Cause::NothingGiven => *number == 2 && *port == 0 && name.is_empty(),
         Cause::NoBuffer => *number == 18 && at.places == 0,
@@ -110,7 +125,9 @@ fn holds_of_names(cause: Cause, at: &Seen) -> bool {
         Cause::ReadTwice => at.carrier(|c| c.place == 1 && c.port == here),
         Cause::ReadElsewhere => at.carrier(|c| c.place != 0 && c.port != here),
         Cause::BoundElsewhere => at.carrier(|c| c.place == 0 && c.port != 0 && c.port != here),
-        Cause::Reserved => at.port(|q| q.reserved == 1),
+        Cause::Reserved => {
+            at.port(|q| q.reserved == 1) && !at.requested(|r| r.port == here && r.started == 1)
+        }
         Cause::Tied => at.port(|q| !q.tie.is_none()) && at.parts.number != 9,
         Cause::Full => at.carriers.iter().filter(|c| c.place == 0).count() == 16,
         _ => false,
@@ -147,11 +164,12 @@ fn holds_of_carrier(cause: Cause, at: &Seen) -> bool {
         Cause::StillExpected => here == 0 && at.carrier(|c| c.place == 0 && c.port == 0),
         Cause::NotThere => here != 0 && at.carrier(|c| c.place == 0 && c.port == 0) && !at.has_unknown_pod(),
         Cause::NothingWaits => at.carrier(|c| c.id != 2 && !(c.id == 3 && c.slot == 2)),
-        Cause::InAccess => at.carrier(|c| c.accessing == 2),
+        Cause::InAccess => at.carrier_or_queued(|c| c.accessing == 2),
         Cause::NotInAccess => at.carrier(|c| c.accessing != 2),
         Cause::Accessed => at.carrier(|c| c.accessing >= 3),
         Cause::NotInBuffer => at.carrier(|c| c.place != 2),
-        Cause::IsOpen | Cause::OpenAlready => at.carrier(|c| c.open == 1),
+        Cause::IsOpen => at.carrier_or_queued(|c| c.open == 1),
+        Cause::OpenAlready => at.carrier(|c| c.open == 1),
         Cause::NotOpen | Cause::ClosedAlready => at.carrier(|c| c.open == 0),
         Cause::AtNoPort => at.carrier(|c| c.place != 1),
         Cause::NotCameOut => at.carrier(|c| c.came_out == 0),
@@ -183,8 +201,25 @@ fn holds_of_pod(cause: Cause, at: &Seen) -> bool {
     }
 }
 
+/// Whether a cause that speaks of the queue is so.
+fn holds_of_queue(cause: Cause, at: &Seen) -> bool {
+    let here = at.parts.port as u8;
+    let name = at.parts.name.trim_ascii_end();
+    let own = |r: &Request| r.name.as_bytes() == name;
+    match cause {
+        Cause::KeptForOut => at.requested(|r| r.port == here && r.started == 1),
+        Cause::OnItsWay => at.requested(|r| own(r) && r.started == 1),
+        Cause::NotQueued => !at.requested(own),
+        Cause::NoneQueued => !at.requested(|r| r.port == here),
+        Cause::NoneStarted => !at.requested(|r| r.port == here && r.started == 1),
+        Cause::QueueFull => at.tool.requests().len() == 16,
+        Cause::QueuedAlready => at.requested(own),
+        _ => false,
+    }
+}
+
 fn holds(cause: Cause, at: &Seen) -> bool {
-    [holds_of_parts, holds_of_names, holds_of_port, holds_of_carrier, holds_of_pod]
+    [holds_of_parts, holds_of_names, holds_of_port, holds_of_carrier, holds_of_pod, holds_of_queue]
         .iter()
         .any(|of| of(cause, at))
 }
@@ -263,6 +298,22 @@ fn full_tool(met: &mut Met) {
     }
 }
 
+/// Sixteen carriers in the buffer, one of them open: all inputs after each that is queued and after two that are started.
+fn full_queue(met: &mut Met) {
+    let names: Vec<[u8; 1]> = (b'a'..b'a' + 16).map(|name| [name]).collect();
+    let stored_names: Vec<&[u8]> = names.iter().map(|name| name.as_slice()).collect();
+    let inputs = inputs(3, 16, &[b"a", b"p", b"A"], false);
+    let mut tool = stored(3, &stored_names);
+    let queued = names.iter().zip([3, 1, 2].into_iter().cycle());
+    let queued = queued.map(|(name, port)| Parts { port, ..parts(7, 0, name) });
+    let started = [parts(27, 0, b""), Parts { port: 2, ..parts(27, 0, b"") }];
+    play(&mut tool, &[parts(19, 0, b"a")]);
+    for parts in queued.chain(started) {
+        play(&mut tool, &[parts]);
+        met.agree_on(&[tool.clone()], &inputs);
+    }
+}
+
 /// Sound states that no run reaches: some by chance, and MoveIn of a pod whose carrier has another ID status, or none.
 fn odd_tools(met: &mut Met, dice: &mut Dice) {
     let move_in = Sent { number: 18, port: 1, value: 1, ..Sent::default() };
@@ -292,6 +343,7 @@ fn every_refusal_has_its_causes() {
     small_tools(&mut met);
     larger_tools(&mut met, &mut dice);
     full_tool(&mut met);
+    full_queue(&mut met);
     let odd = [Cause::NoCarrier, Cause::IdNotRead, Cause::IdFailed];
     assert_eq!(met.never(), [[Cause::NoTool, Cause::NotSound, Cause::NoInput].as_slice(), &odd].concat());
     odd_tools(&mut met, &mut dice);
@@ -304,7 +356,7 @@ fn numbers_without_a_row_and_tools_that_are_none() {
     let tool = Tool::setup(1, 0).unwrap();
     let mut bytes = *tool.as_bytes();
     bytes[3] = 7;
-    for number in [0, 1, 13, 27, 257, u32::MAX] {
+    for number in [0, 1, 13, 31, 257, u32::MAX] {
         let sent = Sent { number, port: 1, name: b"A".to_vec(), ..Sent::default() };
         met.agree_on(&[tool.clone(), Tool::none(), Tool::from_bytes(&bytes)], &[sent]);
     }
@@ -365,4 +417,40 @@ fn verification_that_is_missing_is_named() {
     assert_eq!(told(&tool, move_in), ["the ID waits for the host: A"]);
     play(&mut tool, &[parts(5, 0, A), move_in, start, done, parts(16, 0, b"B"), parts(5, 0, b"B")]);
     assert_eq!(told(&tool, move_in), ["the buffer place is taken: A is in place 2; free: 1"]);
+}
+
+/// Each request for the port that isn't ready is named, and one that is leaves nothing to name.
+#[test]
+fn requests_that_are_not_ready_are_named() {
+    let mut tool = stored(1, &[A, b"B"]);
+    let start = parts(27, 0, b"");
+    assert_eq!(told(&tool, start), ["no CarrierOut is queued for the port: port 1"]);
+    assert_eq!(
+        told(&tool, parts(29, 0, A)),
+        ["no CarrierOut of the carrier is queued: A is in buffer place 1"]
+    );
+    assert_eq!(told(&tool, parts(29, 0, b"Z")), ["no CarrierOut of the carrier is queued: Z has no record"]);
+    play(&mut tool, &[parts(19, 0, A), parts(7, 0, A)]);
+    assert_eq!(told(&tool, start), ["the carrier is open: A"]);
+    assert_eq!(
+        told(&tool, parts(28, 0, b"")),
+        ["no CarrierOut is started to the port: port 1; queued for it: A"]
+    );
+    play(&mut tool, &[parts(7, 0, b"B")]);
+    assert!(told(&tool, start).is_empty());
+}
+
+#[test]
+fn a_port_that_is_kept_is_named_with_its_carrier() {
+    let mut tool = stored(2, &[A, b"B"]);
+    play(&mut tool, &[parts(7, 0, A), parts(7, 0, b"B"), parts(27, 0, b"")]);
+    let kept =
+        "a CarrierOut is started to the port: port 1 is kept for carrier A, whose CarrierOut was started";
+    for number in [1, 11, 12, 13, 27] {
+        assert_eq!(told(&tool, parts(number, 0, b"X")), [kept], "{number}");
+    }
+    assert_eq!(told(&tool, parts(19, 0, A)), ["the carrier's CarrierOut is started: A to port 1, started"]);
+    assert_eq!(told(&tool, parts(29, 0, A)), ["the carrier's CarrierOut is started: A to port 1, started"]);
+    let already = "the carrier's CarrierOut is queued already: B to port 1, queued";
+    assert_eq!(told(&tool, parts(7, 0, b"B")), [already]);
 }
