@@ -146,7 +146,7 @@ enum hm_answer {
     HM_REFUSED_EXPECTED_FULL = 6,         /* 16 carriers are expected already */
     HM_REFUSED_NOT_VERIFIED = 7,          /* not verified */
     HM_REFUSED_PLACE_OR_OPENER_TAKEN = 8, /* the buffer place is taken, or the opener is in use */
-    HM_REFUSED_QUEUE_FULL = 9,            /* 16 requests of CarrierOut are queued already, this one perhaps too */
+    HM_REFUSED_QUEUE_FULL = 9,            /* 16 requests of CarrierOut are queued already, this carrier's too */
     HM_REFUSED_QUEUED_ALREADY = 10,       /* this carrier's CarrierOut is queued already, to whatever port */
     HM_REFUSED_ROOM_TOO_SMALL = 14        /* the reply is longer than the room lent for it: nothing was written */
 };

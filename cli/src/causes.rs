@@ -193,7 +193,7 @@ causes! {
         "Close that one first: the buffer has one opener"
 
     QueueFull QueueFull "16 CarrierOuts are queued"
-        "OutStart and OutDone make room, or CancelCarrierOut; then send it again"
+        "nothing: the carrier's own is among them, for a buffer holds no more than 16"
 
     QueuedAlready QueuedAlready "the carrier's CarrierOut is queued already"
         "nothing, if the port is right; to another port after CancelCarrierOut, which drops what isn't started"

@@ -100,9 +100,9 @@ fn set_up(ports: u32, places: u32) -> Result<Run, String> {
     }
 }
 
-/// The log that document 01 gives. Each entry is first written as the whole tool answers; the judge names the first that
-/// isn't document 01's, and what that should show, and from there on it is done again. So what comes out is what the
-/// judge agrees with, and mostly at the first try.
+/// The log that document 01 gives. Each entry is first written by what the whole tool answers; the judge names the
+/// first that isn't document 01's, and what it should show, and from there on it is done again. So what comes out is
+/// what the judge agrees with, and mostly at the first try.
 fn log_of(run: &Run) -> Vec<u8> {
     let mut log = entry::head(run.ports, run.places);
     let mut left = run.inputs.iter();

@@ -327,8 +327,9 @@ fn id_ok(carrier: &Carrier) -> Option<Ground> {
 
 /// Of a carrier that is opened, mapped, accessed and closed.
 impl Standing<'_> {
-    /// 5 unless closed, NOT ACCESSED and in the buffer, or, when B = 0, at an idle BLOCKED port, and if its CarrierOut is
-    /// started; 7 if ID isn't OK, slot status is FAILED, or it is cancelled; 8 if B > 0 and another is open.
+    /// 5 unless closed, NOT ACCESSED and in the buffer, or, when B = 0, at an idle BLOCKED port, and 5 if its
+    /// CarrierOut is started; 7 if ID isn't OK, slot status is FAILED, or it is cancelled; 8 if B > 0 and another is
+    /// open.
     pub fn open(&self, carrier: &Carrier) -> Grounds {
         let name = carrier.name.to_string();
         let already = ground(carrier.open != 0, Cause::OpenAlready, name.clone());

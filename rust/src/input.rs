@@ -76,7 +76,7 @@ pub enum Input<'a> {
     UnloadDone { port: u32 },
     /// 26: the pod didn't leave.
     UnloadFail { port: u32 },
-    /// 27: starts the oldest request for a port whose carrier is closed and not IN ACCESS, and reserves the port for it.
+    /// 27: starts the oldest request for a port whose carrier is closed and not IN ACCESS, and reserves the port.
     OutStart { port: u32 },
     /// 28: the carrier whose request is started to the port has come out and stands there.
     OutDone { port: u32 },

@@ -25,7 +25,8 @@ pub enum Refusal {
     NoRecord = 2,
     /// 3: the name is taken.
     NameTaken = 3,
-    /// 4: the port is reserved or tied, where the row says so; in rows 12 and 13 also that a CarrierOut is started to it.
+    /// 4: the port is reserved or tied, where the row says so; in rows 12 and 13 also that a CarrierOut is started to
+    /// it.
     ReservedOrTied = 4,
     /// 5: the row's conditions on state don't hold.
     Conditions = 5,
@@ -35,7 +36,7 @@ pub enum Refusal {
     NotVerified = 7,
     /// 8: the buffer place is taken, or the opener is in use.
     PlaceOrOpenerTaken = 8,
-    /// 9: 16 requests of CarrierOut are queued already, that of the same carrier perhaps among them.
+    /// 9: 16 requests of CarrierOut are queued already, this carrier's among them: a buffer holds no more than 16.
     QueueFull = 9,
     /// 10: the carrier's CarrierOut is queued already, to whatever port, started or not.
     QueuedAlready = 10,

@@ -298,7 +298,7 @@ fn full_tool(met: &mut Met) {
     }
 }
 
-/// Sixteen carriers in the buffer, one of them open: all inputs after each that is queued and after two that are started.
+/// Sixteen carriers in the buffer, one of them open: all inputs after each that is queued, and after two are started.
 fn full_queue(met: &mut Met) {
     let names: Vec<[u8; 1]> = (b'a'..b'a' + 16).map(|name| [name]).collect();
     let stored_names: Vec<&[u8]> = names.iter().map(|name| name.as_slice()).collect();
@@ -453,4 +453,13 @@ fn a_port_that_is_kept_is_named_with_its_carrier() {
     assert_eq!(told(&tool, parts(29, 0, A)), ["the carrier's CarrierOut is started: A to port 1, started"]);
     let already = "the carrier's CarrierOut is queued already: B to port 1, queued";
     assert_eq!(told(&tool, parts(7, 0, b"B")), [already]);
+}
+
+/// Whoever meets a full queue is in it: a buffer holds no more than 16.
+#[test]
+fn a_full_queue_names_the_carriers_own_request() {
+    let names: Vec<[u8; 1]> = (b'a'..b'a' + 16).map(|name| [name]).collect();
+    let mut tool = stored(1, &names.iter().map(|name| name.as_slice()).collect::<Vec<_>>());
+    names.iter().for_each(|name| play(&mut tool, &[parts(7, 0, name)]));
+    assert_eq!(told(&tool, parts(7, 0, b"c")), ["16 CarrierOuts are queued: c to port 1, queued"]);
 }

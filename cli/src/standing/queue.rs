@@ -34,9 +34,9 @@ impl Standing<'_> {
     /// 5 unless the carrier is in the buffer; 9 if the queue is full; 10 if it is queued already.
     pub fn carrier_out(&self, carrier: &Carrier) -> Grounds {
         let full = self.tool.requests().len() >= REQUESTS;
-        let already = self.request().map(|request| people::request(&request));
-        let already = already.and_then(|request| ground(true, Cause::QueuedAlready, request));
-        [self.in_buffer(carrier), ground(full, Cause::QueueFull, ""), already].into()
+        let own = self.request().map_or_else(String::new, |request| people::request(&request));
+        let already = ground(!own.is_empty(), Cause::QueuedAlready, own.clone());
+        [self.in_buffer(carrier), ground(full, Cause::QueueFull, own), already].into()
     }
 
     /// The carrier's request isn't started.
