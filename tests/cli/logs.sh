@@ -32,8 +32,9 @@ written() {
     outcome "log to standard output"
     play log - <"$root/examples/twelve_rows.script"
     outcome "log of standard input"
+    # Document 01's CarrierOut moves the carrier at once: without OutStart and OutDone it is the same round trip.
     for script in fixed_buffer_round_trip internal_buffer_round_trip; do
-        grep -v '^dump\|^state' "$root/examples/$script.script" >"$work/inputs"
+        grep -v '^dump\|^state\|^Out' "$root/examples/$script.script" >"$work/inputs"
         hawsermole log "$work/inputs" "$work/trip.log" >"$work/printed"
         echo 'agrees' | want 0
         play judge "$work/trip.log" </dev/null
@@ -65,6 +66,10 @@ wrong_logs() {
     outcome "log of what no log holds"
     [ -e "$work/none.log" ] && echo written >"$work/out"
     outcome "nothing is written then"
+    want 2 "hawsermole: line 2: 'OutStart' is no input of document 01, whose CarrierOut moves the carrier at once: \
+leave it out, or write in 27 .., which is answered 1" </dev/null
+    printf 'setup 1 1\nOutStart 1\n' | play log - "$work/none.log"
+    outcome "log of an input that document 01 hasn't"
     printf 'the file ends at byte 0, inside its head of 7\nrefused 29\n' | want 2
     play judge /dev/null </dev/null
     outcome "judge of an empty file"

@@ -214,6 +214,28 @@ files() {
     outcome "save to nowhere"
 }
 
+# The queue is part of the tool: it is saved, loaded and expected with it, and a damaged one is told.
+queues() {
+    saved=$work/queued
+    printf 'setup 1 1\nLoadStart 1\nLoadDone 1\nIdRead 1 A\nProceedWithCarrier A 0\nMoveIn 1 1\nCarrierOut A 1\n' \
+        >"$work/stored"
+    hawsermole "$work/stored" >"$work/printed"
+    { cat "$work/printed"; echo 'save 3782'; } | want 0
+    { cat "$work/stored"; echo "save $saved"; } | play
+    outcome "save of a queue"
+    printf 'load sound\n0  3 1 0>1\nport 1 1 0 1 - 0 0 0\nrec 41 2 1 0 0 0 0 - 3 1 1\nout 41 1 1\nend\n' | want 0
+    {
+        echo "load $saved"
+        printf 'OutStart 1\nexpect 0 3 1 0>1\ndump\nexpect port 1 ..\nexpect rec ..\nexpect out 41 1 1\n'
+    } | play --check
+    outcome "load of a queue, with what is expected"
+    { head -c 2791 "$saved"; printf '\021'; tail -c +2793 "$saved"; } >"$work/damaged"
+    range='every field is in its range (requests of CarrierOut 17, not 0 to 16 (byte 2791))'
+    printf 'load unsound, not so: %s\n1  none\n' "$range" | want 0
+    { echo "load $work/damaged"; echo CancelAllCarrierOut; } | play
+    outcome "load of a damaged queue"
+}
+
 # A script is a test: status 1 where a line that expects isn't met, or none expects.
 checks() {
     checked=$here/checked
@@ -278,6 +300,7 @@ long_words
 unreadable
 slips
 files
+queues
 checks
 wrong_calls
 logs
