@@ -43,7 +43,7 @@ impl Log {
     }
 }
 
-/// A run without expected maps and padded names: there the whole tool gives what document 01 does.
+/// A run without expected maps, padded names and CarrierOut: there the whole tool gives what document 01 does.
 fn log(ports: u8, places: u8, inputs: &[Input]) -> Log {
     let (mut log, mut tool) = (Log::new(ports, places), Tool::setup(ports.into(), places.into()).unwrap());
     for input in inputs {
@@ -190,6 +190,29 @@ fn no_request_reaches_a_log() {
     shortened.add(&Input::CarrierNotification { name: b"AB " }, &accepted);
     let given = Err(Refusal::OutOfRange);
     assert_eq!(judged(&shortened.bytes), Verdict::Disagrees { entry: 0, at: HEAD, given });
+}
+
+/// CarrierOut moves the carrier at once, or is refused by its port; the queue's own inputs are none.
+#[test]
+fn no_queue_reaches_a_log() {
+    let stored = [
+        Input::LoadStart { port: 1 },
+        Input::LoadDone { port: 1 },
+        Input::IdRead { port: 1, name: b"A" },
+        Input::ProceedWithCarrier { name: b"A", port: 0 },
+        Input::MoveIn { port: 1, place: 1 },
+        Input::ReserveAtPort { port: 2 },
+    ];
+    let mut log = log(2, 1, &stored);
+    let entries = stored.len() as u64;
+    log.add(&Input::CarrierOut { name: b"A", port: 2 }, &Err(Refusal::ReservedOrTied));
+    let numbers = [Input::OutStart { port: 1 }, Input::OutDone { port: 1 }, Input::CancelAllCarrierOut];
+    numbers.iter().for_each(|input| log.add(input, &Err(Refusal::OutOfRange)));
+    assert_eq!(judged(&log.bytes), Verdict::Agrees { entries: entries + 4 });
+    let at = log.bytes.len();
+    log.add(&Input::CarrierOut { name: b"A", port: 1 }, &Ok(Reports::default()));
+    let Verdict::Disagrees { entry, at: begins, given } = judged(&log.bytes) else { panic!() };
+    assert_eq!((entry, begins, given.unwrap().to_string()), (entries + 4, at, "1 1 1>2; 4 1 0>1".into()));
 }
 
 #[test]

@@ -141,6 +141,24 @@ static void no_request(void)
     CHECK(hm_name(padded + 11, 2) == 1);
 }
 
+/* Nor has document 01 a queue: CarrierOut moves the carrier at once, and 27 and 30 are no inputs. */
+static void no_queue(void)
+{
+    static const uint8_t out[] = {
+        'C', 'M', 'T', 0, 1, 1, 1,
+        HM_INPUT_LOAD_START, 1, 0, 0, 0, 1, 1, 1, 1, 3,
+        HM_INPUT_LOAD_DONE, 1, 0, 0, 0, 0,
+        HM_INPUT_ID_READ, 1, 0, 1, 'A', 0, 4, 4, 1, 0, 1, 5, 1, 'A', 0, 2, 6, 1, 'A', 0, 1, 7, 1, 'A', 0, 1,
+        HM_INPUT_PROCEED_WITH_CARRIER, 0, 0, 1, 'A', 0, 1, 5, 1, 'A', 2, 3,
+        HM_INPUT_MOVE_IN, 1, 1, 0, 0, 2, 1, 1, 3, 1, 4, 1, 1, 0,
+        HM_INPUT_CARRIER_OUT, 1, 0, 1, 'A', 0, 2, 1, 1, 1, 2, 4, 1, 0, 1,
+        HM_INPUT_OUT_START, 1, 0, 0, HM_REFUSED_OUT_OF_RANGE, 0,
+        HM_INPUT_CANCEL_ALL_CARRIER_OUT, 0, 0, 0, HM_REFUSED_OUT_OF_RANGE, 0,
+    };
+    CHECK(is_judged(out, sizeof out, HM_LOG_AGREES, 8, sizeof out, HM_REFUSED_OUT_OF_RANGE));
+    CHECK(tool.ports[0].transfer == HM_TRANSFER_READY_TO_UNLOAD && tool.carriers[0].came_out == 1);
+}
+
 static size_t entry_of(size_t at)
 {
     size_t entry = 0;
@@ -191,6 +209,7 @@ int main(void)
     heads();
     what_is_left();
     no_request();
+    no_queue();
     cut_at_every_place();
     changed_at_every_place();
     return result("judge");
