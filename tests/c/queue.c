@@ -346,7 +346,7 @@ static void damage_is_seen(void)
     CHECK(!sound_with(QUEUE_AT(queued), 1) && !sound_with(QUEUE_AT(queued), 3)); /* what is unused is zero */
     CHECK(!sound_with(second + request, 1) && !sound_with(QUEUE_AT(spare), 1));
     CHECK(!sound_with(second + port, 0) && !sound_with(second + port, 3) && sound_with(second + port, 2));
-    CHECK(!sound_with(second + port + 1, 2));
+    CHECK(!sound_with(second + port + 1, 2) && !sound_with(QUEUE_AT(queue) + port + 1, 2)); /* 0 or 1 */
     CHECK(!sound_with(second, 'Z') && !sound_with(second + 1, 'B') && sound_with(second, 'C'));
     CHECK(!sound_with(second, 'A'));                                        /* twice */
     CHECK(!sound_with(second + port + 1, HM_STARTED));                      /* two started to one port */
@@ -357,6 +357,18 @@ static void damage_is_seen(void)
     CHECK(!sound_with(offsetof(hm_tool, ports) + offsetof(hm_port, transfer), HM_TRANSFER_OUT_OF_SERVICE));
     tool.queued = 17;
     CHECK(is_refused(HM_INPUT_CANCEL_ALL_CARRIER_OUT, 0, "", HM_REFUSED_OUT_OF_RANGE));
+}
+
+/* A port that Bind reserved is tied, and no request is started to it; one may wait for it. */
+static void a_tied_port_is_not_kept(void)
+{
+    three_inside();
+    ACCEPTED(HM_INPUT_BIND, 1, "X");
+    tool.queued = 1;
+    put_request(&tool, 0, "A", 1, HM_NOT_STARTED);
+    CHECK(hm_sound(&tool) == 1);
+    tool.queue[0].started = HM_STARTED;
+    CHECK(hm_sound(&tool) == 0);
 }
 
 /* Each byte of the queue and after it with each value: sound are what was there, another port and another carrier. */
@@ -386,6 +398,7 @@ int main(void)
     carriers_are_cancelled();
     requests_are_cancelled();
     damage_is_seen();
+    a_tied_port_is_not_kept();
     every_byte_of_the_queue();
     return result("queue");
 }
