@@ -10,7 +10,9 @@ fn first_thing(refusal: Refusal) -> &'static str {
         Refusal::NameTaken => {
             "take the announcement back first; IdRead: the name is elsewhere, keep the pod closed"
         }
-        Refusal::ReservedOrTied => "another port; or CancelBind (tied), CancelReservationAtPort (reserved)",
+        Refusal::ReservedOrTied => {
+            "another port; or CancelBind (tied), CancelReservationAtPort (reserved), OutDone (CarrierOut started)"
+        }
         Refusal::Conditions => {
             "move nothing, wait for the report that brings it; if it has moved, stop the port"
         }
@@ -19,6 +21,8 @@ fn first_thing(refusal: Refusal) -> &'static str {
             "pod stays closed: ProceedWithCarrier or CancelCarrier; cancelled or FAILED: unload"
         }
         Refusal::PlaceOrOpenerTaken => "MoveIn: another place. Open: close the one that is open",
+        Refusal::QueueFull => "16 requests wait, this one among them: OutStart and OutDone, or cancel some",
+        Refusal::QueuedAlready => "nothing; for another port CancelCarrierOut first, if it isn't started",
         Refusal::RoomTooSmall => "lend 95 bytes of room, and take the message again",
         Refusal::CutShort => "bytes lost, or a length that is too large",
         Refusal::UnknownCode => "JIS-8, or another text format",
@@ -97,10 +101,11 @@ mod tests {
             "\n| 5 ID status | carrier | 0 no record, 1 NOT READ, 2 WAITING FOR HOST, 3 OK, 4 FAILED | 7 |",
             "\n| 7 accessing status | carrier | 0 no record, 1 NOT ACCESSED, 2 IN ACCESS, 3 COMPLETE, 4 STOPPED | 7 |",
             "Movement: 0 idle, 1 loading, 2 unloading.",
-            "26 UnloadFail.",
+            "\n| 10 | CarrierOut is queued already | nothing;",
+            "26 UnloadFail, 27 OutStart, 28 OutDone, 29 CancelCarrierOut, 30 CancelAllCarrierOut.",
         ] {
             assert!(card.contains(part), "{part}\n{card}");
         }
-        assert_eq!(card.lines().filter(|line| line.starts_with("| ")).count(), 1 + 16 + 1 + 7);
+        assert_eq!(card.lines().filter(|line| line.starts_with("| ")).count(), 1 + 18 + 1 + 7);
     }
 }

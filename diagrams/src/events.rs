@@ -1,8 +1,9 @@
 //! From a report to the standard's events: reads `docs/events.tsv`, holds it to what the search found, and makes of it
 //! what other languages read.
-use crate::explore::Found;
+use crate::explore::{Cause, Edge, Found, Kinds};
+use crate::subject::Subject;
 use hawsermole::{Model, Row};
-use std::collections::BTreeSet;
+use std::collections::{BTreeMap, BTreeSet};
 
 /// A line of the table: a report that an input gives, and the transitions that it stands for.
 #[derive(Clone, Debug, PartialEq, Eq)]
@@ -88,11 +89,7 @@ fn check_line(line: &Line, name: &str, table: u8) -> Result<(), &'static str> {
 pub fn check(lines: &[Line], found: &Found) -> Result<(), String> {
     let written: BTreeSet<_> =
         lines.iter().map(|line| (line.input, line.model, line.old, line.new)).collect();
-    let causes = |(edge, causes): (&crate::explore::Edge, &std::collections::BTreeMap<_, _>)| {
-        let (edge, causes): (_, Vec<crate::explore::Cause>) = (*edge, causes.keys().copied().collect());
-        causes.into_iter().map(move |cause| (cause.number, edge.model, edge.old, edge.new))
-    };
-    let run: BTreeSet<_> = found.edges.iter().flat_map(causes).collect();
+    let run: BTreeSet<_> = found.edges.iter().flat_map(reported).collect();
     let told = |(input, model, old, new): &(u32, Model, u8, u8), what: &str| {
         Err(format!("events.tsv: input {input}, report {} {old}>{new} {what}", model.number()))
     };
@@ -109,6 +106,14 @@ pub fn check(lines: &[Line], found: &Found) -> Result<(), String> {
         check_table(lines, table, count)?;
     }
     Ok(())
+}
+
+/// What a transition is reported as, by each input that causes it; a request's isn't.
+fn reported((edge, causes): (&Edge, &BTreeMap<Cause, Kinds>)) -> Vec<(u32, Model, u8, u8)> {
+    match edge.of {
+        Subject::Model(model) => causes.keys().map(|cause| (cause.number, model, edge.old, edge.new)).collect(),
+        Subject::Request => Vec::new(),
+    }
 }
 
 fn check_table(lines: &[Line], table: u8, count: u8) -> Result<(), String> {

@@ -1,9 +1,11 @@
-//! Finds the transitions: every input to every tool that runs from a set-up reach, and what the reports say.
+//! Finds the transitions: every input to every tool that runs from a set-up reach, what the reports say, and what
+//! becomes of the requests for CarrierOut.
 //!
 //! The search is complete within its bounds: all runs, of any length, of the tools in [`SETUPS`] with inputs made
 //! of the ports of the tool (and 0), the names in [`NAMES`] (and none), every buffer place, both values of every
 //! choice, one expected map (and none), and one slot map, which equals it. A tool that was met before isn't followed
 //! again, so the search ends by itself.
+use crate::subject::{request_of, Subject};
 use hawsermole::{Argument, Input, Model, Parts, Reports, Row, Tool, ROWS, TOOL_BYTES};
 use std::collections::{BTreeMap, BTreeSet, HashSet, VecDeque};
 
@@ -16,12 +18,20 @@ const NO_NAME: &[u8] = b"";
 const NO_MAP: &[u8] = b"";
 const MAP: &[u8] = &[3; hawsermole::SLOTS];
 
-/// A transition of a model: from old to new, by an input.
+/// A transition: from old to new, by an input.
 #[derive(Clone, Copy, Debug, PartialEq, Eq, PartialOrd, Ord)]
 pub struct Edge {
-    pub model: Model,
+    pub of: Subject,
     pub old: u8,
     pub new: u8,
+}
+
+/// An accepted input: the tool before and after it, and its reports.
+pub struct Step<'a> {
+    pub before: &'a Tool,
+    pub after: &'a Tool,
+    pub input: &'a Input<'a>,
+    pub reports: Reports,
 }
 
 /// What causes a transition: a row, with its value where the row's value is a choice of two. For a slot map the value
@@ -42,8 +52,8 @@ pub struct Kinds {
 /// What the search found.
 #[derive(Debug, Default)]
 pub struct Found {
-    /// The state that set-up gives to every port, in models 1 to 4.
-    pub first: BTreeSet<(Model, u8)>,
+    /// The state that set-up gives to every port, in models 1 to 4, and to the request of every carrier.
+    pub first: BTreeSet<(Subject, u8)>,
     pub edges: BTreeMap<Edge, BTreeMap<Cause, Kinds>>,
     pub tools: usize,
 }
@@ -61,23 +71,29 @@ pub fn explore() -> Found {
 pub fn explore_from(ports: u32, places: u32, names: &[&[u8]], found: &mut Found) {
     let start = Tool::setup(ports, places).expect("the bounds are a tool's");
     found.first.extend(start.ports().flat_map(states_at));
-    let tools = each_step(ports, places, names, |tool, input, reports| {
-        for report in reports {
-            let edge = Edge { model: report.model, old: report.old, new: report.new };
-            found.note(edge, cause(tool, input), places);
-        }
+    found.first.extend(names.iter().map(|name| (Subject::Request, request_of(&start, name))));
+    let tools = each_step(ports, places, names, |step| {
+        let cause = cause(step.after, step.input);
+        let requests = names.iter().filter_map(|name| of_request(&step, name));
+        let reports = step.reports.into_iter();
+        let reported = reports.map(|report| Edge {
+            of: Subject::Model(report.model),
+            old: report.old,
+            new: report.new,
+        });
+        reported.chain(requests).for_each(|edge| found.note(edge, cause, places));
     });
     found.tools += tools;
 }
 
-/// Calls with each accepted input to each tool that is reached, breadth first: the tool after it, the input,
-/// its reports. Gives the number of tools.
-pub fn each_step(
-    ports: u32,
-    places: u32,
-    names: &[&[u8]],
-    mut call: impl FnMut(&Tool, &Input<'_>, Reports),
-) -> usize {
+/// What became of a carrier's request.
+fn of_request(step: &Step, name: &[u8]) -> Option<Edge> {
+    let (old, new) = (request_of(step.before, name), request_of(step.after, name));
+    (old != new).then_some(Edge { of: Subject::Request, old, new })
+}
+
+/// Calls with each accepted input to each tool that is reached, breadth first. Gives the number of tools.
+pub fn each_step(ports: u32, places: u32, names: &[&[u8]], mut call: impl FnMut(Step<'_>)) -> usize {
     let inputs = inputs(ports, places, names);
     let start = Tool::setup(ports, places).expect("the bounds are a tool's");
     let mut met: HashSet<[u8; TOOL_BYTES]> = HashSet::from([*start.as_bytes()]);
@@ -86,7 +102,7 @@ pub fn each_step(
         for input in &inputs {
             let mut next = tool.clone();
             let Ok(reports) = next.step(input) else { continue };
-            call(&next, input, reports);
+            call(Step { before: &tool, after: &next, input, reports });
             if met.insert(*next.as_bytes()) {
                 waiting.push_back(next);
             }
@@ -95,13 +111,14 @@ pub fn each_step(
     met.len()
 }
 
-fn states_at(port: hawsermole::Port) -> [(Model, u8); 4] {
+fn states_at(port: hawsermole::Port) -> [(Subject, u8); 4] {
     [
         (Model::Transfer, port.transfer),
         (Model::Access, port.access),
         (Model::Reservation, port.reserved),
         (Model::Tie, u8::from(!port.tie.is_none())),
     ]
+    .map(|(model, state)| (Subject::Model(model), state))
 }
 
 impl Found {

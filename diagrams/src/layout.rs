@@ -2,6 +2,7 @@
 //!
 //! Which states and transitions there are, and the words on them, come from the search.
 //! [`plan`](crate::plan) fails where the two don't meet, in either direction.
+use crate::subject::{Subject, NO_REQUEST, QUEUED, STARTED};
 use hawsermole::Model;
 
 /// An end of a transition. `NoRecord` and `SetUp` are drawn as small dots, one for each transition.
@@ -37,7 +38,7 @@ pub struct Route {
 #[derive(Clone, Copy, Debug)]
 pub struct Layout {
     pub file: &'static str,
-    pub model: Model,
+    pub of: Subject,
     pub height: i32,
     pub box_width: i32,
     /// A state and the middle of its box.
@@ -56,11 +57,11 @@ const fn route(from: Node, to: Node, way: &'static [Point], label: Point, side: 
     Route { from, to, way, label, side }
 }
 
-pub const LAYOUTS: [Layout; 7] = [TRANSFER, ACCESS, RESERVATION, TIE, ID, SLOT, ACCESSING];
+pub const LAYOUTS: [Layout; 8] = [TRANSFER, ACCESS, RESERVATION, TIE, ID, SLOT, ACCESSING, REQUEST];
 
 const TRANSFER: Layout = Layout {
     file: "transfer.svg",
-    model: Model::Transfer,
+    of: Subject::Model(Model::Transfer),
     height: 400,
     box_width: 170,
     states: &[(0, (215, 40)), (1, (215, 180)), (2, (520, 370)), (3, (520, 180))],
@@ -78,7 +79,7 @@ const TRANSFER: Layout = Layout {
 
 const ACCESS: Layout = Layout {
     file: "access_mode.svg",
-    model: Model::Access,
+    of: Subject::Model(Model::Access),
     height: 90,
     box_width: 170,
     states: &[(0, (170, 45)), (1, (585, 45))],
@@ -91,20 +92,20 @@ const ACCESS: Layout = Layout {
 
 const RESERVATION: Layout = Layout {
     file: "reservation.svg",
-    model: Model::Reservation,
-    height: 150,
+    of: Subject::Model(Model::Reservation),
+    height: 165,
     box_width: 170,
-    states: &[(0, (200, 65)), (1, (565, 65))],
+    states: &[(0, (200, 70)), (1, (565, 70))],
     routes: &[
-        route(SetUp, State(0), &[(65, 65), (115, 65)], (55, 65), End),
-        route(State(0), State(1), &[(285, 55), (480, 55)], (382, 31), Middle),
-        route(State(1), State(0), &[(480, 75), (285, 75)], (382, 118), Middle),
+        route(SetUp, State(0), &[(65, 70), (115, 70)], (55, 70), End),
+        route(State(0), State(1), &[(285, 60), (480, 60)], (382, 30), Middle),
+        route(State(1), State(0), &[(480, 80), (285, 80)], (382, 120), Middle),
     ],
 };
 
 const TIE: Layout = Layout {
     file: "tie.svg",
-    model: Model::Tie,
+    of: Subject::Model(Model::Tie),
     height: 205,
     box_width: 170,
     states: &[(0, (180, 125)), (1, (530, 125))],
@@ -118,7 +119,7 @@ const TIE: Layout = Layout {
 
 const ID: Layout = Layout {
     file: "id.svg",
-    model: Model::Id,
+    of: Subject::Model(Model::Id),
     height: 510,
     box_width: 170,
     states: &[(1, (340, 112)), (2, (340, 240)), (3, (130, 385)), (4, (550, 385))],
@@ -140,7 +141,7 @@ const ID: Layout = Layout {
 
 const SLOT: Layout = Layout {
     file: "slot_map.svg",
-    model: Model::Slot,
+    of: Subject::Model(Model::Slot),
     height: 500,
     box_width: 196,
     states: &[(1, (340, 127)), (2, (340, 255)), (3, (130, 400)), (4, (550, 400))],
@@ -159,7 +160,7 @@ const SLOT: Layout = Layout {
 
 const ACCESSING: Layout = Layout {
     file: "accessing.svg",
-    model: Model::Accessing,
+    of: Subject::Model(Model::Accessing),
     height: 500,
     box_width: 170,
     states: &[(1, (340, 127)), (2, (340, 255)), (3, (130, 400)), (4, (550, 400))],
@@ -171,5 +172,26 @@ const ACCESSING: Layout = Layout {
         route(State(2), State(4), &[(425, 255), (550, 255), (550, 378)], (542, 317), End),
         route(State(3), NoRecord, &[(130, 422), (130, 485)], (138, 453), Start),
         route(State(4), NoRecord, &[(550, 422), (550, 485)], (542, 453), End),
+    ],
+};
+
+const REQUEST: Layout = Layout {
+    file: "queue.svg",
+    of: Subject::Request,
+    height: 200,
+    box_width: 100,
+    states: &[(NO_REQUEST, (135, 70)), (QUEUED, (415, 70)), (STARTED, (615, 70))],
+    routes: &[
+        route(SetUp, State(NO_REQUEST), &[(65, 70), (85, 70)], (55, 70), End),
+        route(State(NO_REQUEST), State(QUEUED), &[(185, 60), (365, 60)], (275, 46), Middle),
+        route(State(QUEUED), State(NO_REQUEST), &[(365, 80), (185, 80)], (275, 112), Middle),
+        route(State(QUEUED), State(STARTED), &[(465, 70), (565, 70)], (515, 56), Middle),
+        route(
+            State(STARTED),
+            State(NO_REQUEST),
+            &[(615, 92), (615, 180), (135, 180), (135, 92)],
+            (375, 166),
+            Middle,
+        ),
     ],
 };

@@ -1,6 +1,7 @@
-//! The state models of document 01 as pictures, found by running the proved machine: [`explore`] finds every
-//! transition that a run from set-up can cause, [`layout`] says where things stand, [`plan`] joins the two,
-//! [`shape`] sees that nothing lies on anything else, and [`svg`] writes. [`walk`] makes tables of played scripts.
+//! The state models of document 01 and the life of a CarrierOut request as pictures, found by running the proved
+//! machine: [`explore`] finds every transition that a run from set-up can cause, [`layout`] says where things stand,
+//! [`plan`] joins the two, [`shape`] sees that nothing lies on anything else, and [`svg`] writes. [`subject`] has what
+//! a picture may be of. [`walk`] makes tables of played scripts.
 //! [`events`] holds the standard's numbers of all reports to what [`explore`] found; [`card`] is for the pocket.
 #![forbid(unsafe_code)]
 
@@ -10,6 +11,7 @@ pub mod explore;
 pub mod layout;
 pub mod plan;
 pub mod shape;
+pub mod subject;
 pub mod svg;
 pub mod text;
 pub mod walk;

@@ -1,7 +1,8 @@
-//! `diagrams DIR` writes the state models as pictures; `diagrams --check DIR` compares them with those that are there.
+//! `diagrams DIR` writes the pictures; `diagrams --check DIR` compares them with those that are there.
 #![forbid(unsafe_code)]
 
 use diagrams::explore::{explore, explore_from, Found, NAMES};
+use diagrams::subject::Subject;
 use diagrams::walk::walk;
 use diagrams::{made, pictures};
 use hawsermole::EVENTS;
@@ -11,7 +12,7 @@ use std::path::Path;
 use std::process::ExitCode;
 
 const USAGE: &str = "\
-usage: diagrams DIR            writes the pictures of the state models to DIR
+usage: diagrams DIR            writes the pictures of the state models and of a CarrierOut request to DIR
        diagrams --check DIR    status 1 unless DIR holds just the pictures that would be written
        diagrams --events ROOT  writes the card and what is made from ROOT/docs/events.tsv; status 1 unless that has
                                every report that a run gives
@@ -102,7 +103,7 @@ fn check(folder: &Path) -> Result<(), String> {
         let path = entry.map_err(told)?.path();
         let known = pictures.iter().any(|(file, _)| path.ends_with(file));
         if !known && path.extension().is_some_and(|end| end == "svg") {
-            return Err(format!("{} is no picture of a state model", path.display()));
+            return Err(format!("{} is no picture that would be written", path.display()));
         }
     }
     let edges = found.edges.len();
@@ -118,7 +119,11 @@ fn list(found: &Found) -> String {
     for (edge, causes) in &found.edges {
         let causes: Vec<String> =
             causes.iter().map(|(&cause, &kinds)| diagrams::text::cause(*edge, cause, kinds)).collect();
-        text += &format!("{} {}>{}  {}\n", edge.model.number(), edge.old, edge.new, causes.join(", "));
+        let of = match edge.of {
+            Subject::Model(model) => model.number().to_string(),
+            Subject::Request => "out".into(),
+        };
+        text += &format!("{of} {}>{}  {}\n", edge.old, edge.new, causes.join(", "));
     }
     text
 }

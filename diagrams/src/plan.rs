@@ -1,6 +1,7 @@
 //! Joins what was found with the layout, and fails where one has what the other lacks.
 use crate::explore::Found;
 use crate::layout::{Layout, Node, Route};
+use crate::subject::Subject;
 use crate::text;
 use hawsermole::Model;
 use std::collections::BTreeMap;
@@ -21,7 +22,7 @@ pub struct Plan {
 
 /// Joins the two; `Err` names the first state or transition that only one of them has.
 pub fn plan(layout: &Layout, found: &Found) -> Result<Plan, String> {
-    let mut words = words_found(layout.model, found);
+    let mut words = words_found(layout.of, found);
     check_states(layout, &words)?;
     let mut arrows = Vec::new();
     for &route in layout.routes {
@@ -38,22 +39,22 @@ pub fn plan(layout: &Layout, found: &Found) -> Result<Plan, String> {
 
 type Words = BTreeMap<(Node, Node), Vec<String>>;
 
-fn words_found(model: Model, found: &Found) -> Words {
+fn words_found(subject: Subject, found: &Found) -> Words {
     let mut words = Words::new();
-    for &(_, first) in found.first.iter().filter(|(of, _)| *of == model) {
+    for &(_, first) in found.first.iter().filter(|(of, _)| *of == subject) {
         words.insert((Node::SetUp, Node::State(first)), vec!["set-up".into()]);
     }
-    for (&edge, causes) in found.edges.iter().filter(|(edge, _)| edge.model == model) {
+    for (&edge, causes) in found.edges.iter().filter(|(edge, _)| edge.of == subject) {
         let lines = causes.iter().map(|(&cause, &kinds)| text::cause(edge, cause, kinds)).collect();
-        words.insert((node(model, edge.old), node(model, edge.new)), lines);
+        words.insert((node(subject, edge.old), node(subject, edge.new)), lines);
     }
     words
 }
 
-/// 0 is a state of a port, and "no state" of a carrier.
-fn node(model: Model, state: u8) -> Node {
-    match model {
-        Model::Id | Model::Slot | Model::Accessing if state == 0 => Node::NoRecord,
+/// 0 is a state of a port or a request, and "no state" of a carrier.
+fn node(subject: Subject, state: u8) -> Node {
+    match subject {
+        Subject::Model(Model::Id | Model::Slot | Model::Accessing) if state == 0 => Node::NoRecord,
         _ => Node::State(state),
     }
 }

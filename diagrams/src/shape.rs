@@ -1,6 +1,7 @@
 //! The rectangles of a picture, and the check that a reader can tell them apart.
 use crate::layout::{Layout, Node, Point, Route, Side, BOX_HEIGHT, WIDTH};
 use crate::plan::{Arrow, Plan};
+use crate::subject::Subject;
 use crate::text::{self, LINE};
 
 /// A dot's radius.
@@ -43,8 +44,13 @@ impl Rect {
     }
 }
 
-/// The part of a state's box that has its number.
-pub const NUMBER_WIDTH: i32 = 24;
+/// The part of a state's box that has its number; a request's states have none.
+pub fn number_width(layout: &Layout) -> i32 {
+    match layout.of {
+        Subject::Model(_) => 24,
+        Subject::Request => 0,
+    }
+}
 
 /// A state's box.
 pub fn state_box(layout: &Layout, middle: Point) -> Rect {
@@ -53,7 +59,11 @@ pub fn state_box(layout: &Layout, middle: Point) -> Rect {
 
 /// A state's words, in the lines that its box has room for.
 pub fn state_words(layout: &Layout, state: u8) -> Vec<String> {
-    text::wrapped(layout.model.state(state), layout.box_width - NUMBER_WIDTH - 2 * GAP)
+    text::wrapped(layout.of.state(state), word_room(layout))
+}
+
+fn word_room(layout: &Layout) -> i32 {
+    layout.box_width - number_width(layout) - 2 * GAP
 }
 
 /// The room that a label takes.
@@ -141,7 +151,7 @@ fn span((x, y): Point, (u, v): Point) -> Rect {
 }
 
 fn check_words(layout: &Layout, state: u8) -> Result<(), String> {
-    let (words, room) = (state_words(layout, state), layout.box_width - NUMBER_WIDTH - 2 * GAP);
+    let (words, room) = (state_words(layout, state), word_room(layout));
     let fits = LINE * words.len() as i32 <= BOX_HEIGHT && words.iter().all(|line| text::width(line) <= room);
     match fits {
         true => Ok(()),

@@ -1,23 +1,23 @@
 //! Writes a picture: black on white, in elements that every viewer knows.
 use crate::layout::{Layout, Node, Point, Side, WIDTH};
 use crate::plan::{Arrow, Plan};
-use crate::shape::{dots, state_box, state_words, DOT, NUMBER_WIDTH};
+use crate::shape::{dots, number_width, state_box, state_words, DOT};
 use crate::text::{width, FIXED, INTERNAL, LINE, NO_NUMBER, NUMBER, SIZE};
 
 const HEAD_LENGTH: i32 = 9;
 const HEAD_BREADTH: i32 = 4;
 
 pub fn svg(plan: &Plan) -> String {
-    let Layout { model, height, states, .. } = plan.layout;
+    let Layout { of, height, states, .. } = plan.layout;
     let legend = legend(plan);
     let total = height + LINE * legend.len() as i32 + 10;
     let mut out = format!(
         "<svg xmlns=\"http://www.w3.org/2000/svg\" \
          width=\"{WIDTH}\" height=\"{total}\" viewBox=\"0 0 {WIDTH} {total}\" \
          font-family=\"Helvetica, Arial, Liberation Sans, sans-serif\" font-size=\"{SIZE}\">\n\
-         <title>Model {}: {model}</title>\n\
+         <title>{}</title>\n\
          <rect width=\"{WIDTH}\" height=\"{total}\" fill=\"white\"/>\n",
-        model.number()
+        of.title()
     );
     for &(state, middle) in states {
         out += &state_text(&plan.layout, state, middle);
@@ -34,15 +34,17 @@ pub fn svg(plan: &Plan) -> String {
 fn state_text(layout: &Layout, state: u8, middle: Point) -> String {
     let rect = state_box(layout, middle);
     let (left, top, height) = (rect.left, rect.top, rect.bottom - rect.top);
-    let bar = left + NUMBER_WIDTH;
     let mut out = format!(
         "<rect x=\"{left}\" y=\"{top}\" width=\"{}\" height=\"{height}\" rx=\"8\" fill=\"white\" stroke=\"black\" \
-         stroke-width=\"1.5\"/>\n\
-         <path d=\"M{bar} {top}V{}\" stroke=\"black\"/>\n",
-        rect.right - left,
-        rect.bottom
+         stroke-width=\"1.5\"/>\n",
+        rect.right - left
     );
-    out += &lines_text(&[state.to_string()], (left + NUMBER_WIDTH / 2, middle.1), Side::Middle, true);
+    let wide = number_width(layout);
+    let bar = left + wide;
+    if wide > 0 {
+        out += &format!("<path d=\"M{bar} {top}V{}\" stroke=\"black\"/>\n", rect.bottom);
+        out += &lines_text(&[state.to_string()], (left + wide / 2, middle.1), Side::Middle, true);
+    }
     out + &lines_text(&state_words(layout, state), ((bar + rect.right) / 2, middle.1), Side::Middle, true)
 }
 
@@ -112,10 +114,13 @@ fn legend(plan: &Plan) -> Vec<Vec<(Key, String)>> {
     let ends = |node| plan.arrows.iter().any(|arrow| arrow.route.from == node || arrow.route.to == node);
     let marked =
         |mark: &str| plan.arrows.iter().flat_map(|arrow| &arrow.lines).any(|line| line.ends_with(mark));
-    let table = plan.layout.model.table();
-    let mut lines = vec![vec![(Key::Mark(NUMBER), format!("transition of the standard's Table {table}"))]];
-    if marked(NO_NUMBER) {
-        lines[0].push((Key::Mark(NO_NUMBER), "none there".into()));
+    let mut lines = Vec::new();
+    if let Some(table) = plan.layout.of.table() {
+        let mut numbers = vec![(Key::Mark(NUMBER), format!("transition of the standard's Table {table}"))];
+        if marked(NO_NUMBER) {
+            numbers.push((Key::Mark(NO_NUMBER), "none there".into()));
+        }
+        lines.push(numbers);
     }
     if ends(Node::NoRecord) {
         lines.push(vec![(Key::Made, "record made".into()), (Key::Gone, "record gone".into())]);

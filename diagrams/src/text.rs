@@ -1,5 +1,6 @@
 //! The words of a picture, and how much room they take.
 use crate::explore::{choice, Cause, Edge, Kinds};
+use crate::subject::Subject;
 use hawsermole::{Argument, Event, Row};
 
 /// In pixels; 13 of them are some 9 points when the picture is as wide as the text of an A4 page.
@@ -22,8 +23,10 @@ pub fn cause(edge: Edge, cause: Cause, kinds: Kinds) -> String {
         text += ": ";
         text += value_word(argument, value);
     }
-    text += " ";
-    text += &passed(edge, cause.number);
+    if let Some(numbers) = passed(edge, cause.number) {
+        text += " ";
+        text += &numbers;
+    }
     match (kinds.fixed, kinds.internal) {
         (true, false) => text + " " + FIXED,
         (false, true) => text + " " + INTERNAL,
@@ -31,16 +34,13 @@ pub fn cause(edge: Edge, cause: Cause, kinds: Kinds) -> String {
     }
 }
 
-/// The transitions as the standard numbers them: `#10 #5`.
-fn passed(Edge { model, old, new }: Edge, input: u32) -> String {
+/// The transitions as the standard numbers them: `#10 #5`. It has no state model of a request.
+fn passed(Edge { of, old, new }: Edge, input: u32) -> Option<String> {
+    let Subject::Model(model) = of else { return None };
     let event = Event::of_change(input, model, old, new);
     let numbers: Vec<String> =
         event.into_iter().flat_map(|event| event.passed).map(|number| format!("{NUMBER}{number}")).collect();
-    if numbers.is_empty() {
-        NO_NUMBER.into()
-    } else {
-        numbers.join(" ")
-    }
+    Some(if numbers.is_empty() { NO_NUMBER.into() } else { numbers.join(" ") })
 }
 
 /// The word for one of two values: document 01's, where it is a number of the input's.
@@ -98,7 +98,7 @@ mod tests {
     #[test]
     fn causes_have_document_01s_names_and_the_standards_numbers() {
         let named = |number, choice, kinds, (model, old, new)| {
-            cause(Edge { model, old, new }, Cause { number, choice }, kinds)
+            cause(Edge { of: Subject::Model(model), old, new }, Cause { number, choice }, kinds)
         };
         assert_eq!(named(1, None, BOTH, (Model::Tie, 0, 1)), "Bind #2");
         assert_eq!(named(9, Some(1), BOTH, (Model::Access, 0, 1)), "ChangeAccess: AUTO #2");
@@ -110,6 +110,8 @@ mod tests {
         assert_eq!(named(6, None, BOTH, (Model::Id, 1, 4)), "CancelCarrier no #");
         assert_eq!(named(18, None, INTERNAL_ALONE, (Model::Transfer, 3, 1)), "MoveIn #8 (I)");
         assert_eq!(named(23, None, FIXED_ALONE, (Model::Transfer, 3, 2)), "Close #9 (F)");
+        let of_request = Edge { of: Subject::Request, old: 1, new: 2 };
+        assert_eq!(cause(of_request, Cause { number: 27, choice: None }, INTERNAL_ALONE), "OutStart (I)");
     }
 
     #[test]

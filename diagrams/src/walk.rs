@@ -1,6 +1,6 @@
 //! Plays a script of the command line and writes it as a table: each input, its answer and its reports,
 //! and what stands after it.
-use hawsermole::{words, Argument, Carrier, Input, Parts, Port, Refusal, Reports, Row, Tool};
+use hawsermole::{words, Argument, Carrier, Input, Parts, Port, Refusal, Reports, Request, Row, Tool};
 
 /// A script's steps as rows of a Markdown table.
 pub fn walk(script: &str) -> Result<Vec<String>, String> {
@@ -66,17 +66,29 @@ fn read<'a>(words: &[&'a str], codes: &'a [u8]) -> Option<Input<'a>> {
     Input::from_parts(&parts)
 }
 
-/// Each port and carrier that isn't as it was, in full.
+/// Each port and carrier that isn't as it was, in full, and the queue for CarrierOut.
 fn changes(before: &Tool, after: &Tool) -> String {
     let old = |carrier: &Carrier| before.carriers().any(|old| old == *carrier);
     let ports = after.ports().zip(before.ports()).filter(|(now, then)| now != then).map(|(now, _)| port(now));
     let carriers = after.carriers().filter(|now| !old(now)).map(|now| carrier(after, now));
     let stays = |gone: &Carrier| after.carriers().any(|now| now.name == gone.name);
     let gone = before.carriers().filter(|then| !stays(then)).map(|then| format!("{}: no record", then.name));
-    let all: Vec<String> = ports.chain(carriers).chain(gone).collect();
+    let queue = (!after.requests().eq(before.requests())).then(|| queue(after));
+    let all: Vec<String> = ports.chain(carriers).chain(gone).chain(queue).collect();
     match all.is_empty() {
         true => "as before".into(),
         false => all.join("<br>"),
+    }
+}
+
+fn queue(tool: &Tool) -> String {
+    let request = |Request { name, port, started }: Request| {
+        format!("{name} to port {port}{}", if started == 0 { "" } else { ", started" })
+    };
+    let requests: Vec<String> = tool.requests().map(request).collect();
+    match requests.is_empty() {
+        true => "queue: empty".into(),
+        false => format!("queue: {}", requests.join("; ")),
     }
 }
 
@@ -150,6 +162,34 @@ mod tests {
             rows[0]
         );
         assert!(rows[1].ends_with("AC: expected, closed, ID 1, slot 1, accessing 1 |"), "{}", rows[1]);
+    }
+
+    #[test]
+    fn the_queue_is_told() {
+        let stored = |name, place| {
+            format!(
+                "CarrierNotification {name}\nLoadStart 1\nLoadDone 1\nIdRead 1 {name}\nMoveIn 1 {place}\n"
+            )
+        };
+        let script = format!(
+            "setup 1 2\n{}{}CarrierOut AB 1\nCarrierOut AC 1\nOutStart 1\nOutDone 1\nCancelAllCarrierOut\n",
+            stored("AB", 1),
+            stored("AC", 2)
+        );
+        let rows = walk(&script).unwrap();
+        assert_eq!(
+            rows[10..],
+            [
+                "| CarrierOut(AB, 1) | `0  none` | queue: AB to port 1 |",
+                "| CarrierOut(AC, 1) | `0  none` | queue: AB to port 1; AC to port 1 |",
+                "| OutStart(1) | `0  3 1 0>1` | port 1: READY TO LOAD, reserved<br>\
+                 queue: AB to port 1, started; AC to port 1 |",
+                "| OutDone(1) | `0  1 1 1>2; 3 1 1>0; 4 1 0>1` | \
+                 port 1: READY TO UNLOAD, tied to AB, pod, tag read<br>\
+                 AB: at port 1, closed, ID 3, slot 1, accessing 1, came out<br>queue: AC to port 1 |",
+                "| CancelAllCarrierOut() | `0  none` | queue: empty |",
+            ]
+        );
     }
 
     #[test]

@@ -1,21 +1,22 @@
-//! What the search finds is what document 01's rows say, row by row, row 20 with the expected map of request P1, and
-//! nothing else.
-use diagrams::explore::{explore, Found};
+//! What the search finds is what document 01's rows say, row by row, row 20 with the expected map of request P1 and
+//! rows 7 and 27 to 30 with the queue of request P5, and nothing else.
+use diagrams::explore::{explore, Found, Kinds};
+use diagrams::subject::Subject;
 use std::collections::{BTreeMap, BTreeSet};
 use std::sync::LazyLock;
 
 static FOUND: LazyLock<Found> = LazyLock::new(explore);
 
-/// The changes that each row of document 01 brings to a tool that runs reach, as `model old>new`;
+/// The changes that each row brings to a tool that runs reach, as `model old>new`, those of a request as `out old>new`;
 /// rows that bring none are left out (LoadDone, Open).
-const ROWS: [(u32, &str); 24] = [
+const ROWS: [(u32, &str); 28] = [
     (1, "3 0>1, 4 0>1, 5 0>1, 6 0>1, 7 0>1"),
     (2, "3 1>0, 4 1>0, 5 1>0, 6 1>0, 7 1>0"),
     (3, "5 0>1, 6 0>1, 7 0>1"),
     (4, "5 1>0, 6 1>0, 7 1>0"),
     (5, "4 0>1, 5 0>3, 5 1>3, 5 2>3, 6 0>1, 6 2>3, 7 0>1"),
-    (6, "1 3>2, 4 0>1, 5 0>4, 5 1>4, 5 2>4, 6 0>1, 6 2>4, 7 0>1"),
-    (7, "1 1>2, 4 0>1"),
+    (6, "1 3>2, 4 0>1, 5 0>4, 5 1>4, 5 2>4, 6 0>1, 6 2>4, 7 0>1, out 1>0"),
+    (7, "out 0>1"),
     (8, "1 2>3"),
     (9, "2 0>1, 2 1>0"),
     (10, "1 0>1, 1 1>0"),
@@ -33,13 +34,24 @@ const ROWS: [(u32, &str); 24] = [
     (24, "1 2>3"),
     (25, "1 3>1, 4 1>0, 5 3>0, 5 4>0, 6 1>0, 6 2>0, 6 3>0, 6 4>0, 7 1>0, 7 3>0, 7 4>0"),
     (26, "1 3>2"),
+    (27, "3 0>1, out 1>2"),
+    (28, "1 1>2, 3 1>0, 4 0>1, out 2>0"),
+    (29, "out 1>0"),
+    (30, "out 1>0"),
 ];
+
+fn short(subject: Subject) -> String {
+    match subject {
+        Subject::Model(model) => model.number().to_string(),
+        Subject::Request => "out".into(),
+    }
+}
 
 fn by_row(found: &Found) -> BTreeMap<u32, BTreeSet<String>> {
     let mut rows: BTreeMap<u32, BTreeSet<String>> = BTreeMap::new();
     for (edge, causes) in &found.edges {
         for cause in causes.keys() {
-            let change = format!("{} {}>{}", edge.model.number(), edge.old, edge.new);
+            let change = format!("{} {}>{}", short(edge.of), edge.old, edge.new);
             rows.entry(cause.number).or_default().insert(change);
         }
     }
@@ -70,9 +82,20 @@ fn choices_lead_where_document_01_says() {
     assert_eq!(lead(11), [(0, 1, None)]);
 }
 
-/// "At set-up: 1, 0, 0, no tie", for transfer, access, reservation and tie.
+/// A tool without a buffer queues nothing: "provided the carrier .. is in the buffer".
+#[test]
+fn requests_are_of_tools_with_a_buffer() {
+    let of_requests = FOUND.edges.iter().filter(|(edge, _)| edge.of == Subject::Request);
+    let kinds: Vec<&Kinds> = of_requests.flat_map(|(_, causes)| causes.values()).collect();
+    assert!(!kinds.is_empty());
+    assert!(kinds.iter().all(|kinds| kinds.internal && !kinds.fixed));
+}
+
+/// "At set-up: 1, 0, 0, no tie", for transfer, access, reservation and tie; and nothing is queued.
 #[test]
 fn ports_begin_as_document_01_says() {
-    let first: Vec<(u8, u8)> = FOUND.first.iter().map(|(model, state)| (model.number(), *state)).collect();
-    assert_eq!(first, [(1, 1), (2, 0), (3, 0), (4, 0)]);
+    let first: Vec<(String, u8)> =
+        FOUND.first.iter().map(|&(subject, state)| (short(subject), state)).collect();
+    let written = [("1", 1), ("2", 0), ("3", 0), ("4", 0), ("out", 0)];
+    assert_eq!(first, written.map(|(subject, state)| (subject.into(), state)));
 }

@@ -1,6 +1,5 @@
 //! What docs/MANUAL.md quotes, cites and claims.
 use diagrams::walk::walk;
-use hawsermole::{Input, Tool};
 use std::collections::HashSet;
 use std::fs;
 use std::path::PathBuf;
@@ -113,17 +112,12 @@ fn labels_and_scripts_are_there() {
 fn an_input_sent_twice_does_no_more_than_once() {
     let mut tried = 0;
     for places in [0, 1] {
-        diagrams::explore::each_step(
-            1,
-            places,
-            &diagrams::explore::NAMES,
-            |tool: &Tool, input: &Input, _| {
-                let mut again = tool.clone();
-                assert!(again.step(input).map_or(true, |reports| reports.len() == 0), "{input}");
-                assert!(again == *tool, "{input}");
-                tried += 1;
-            },
-        );
+        diagrams::explore::each_step(1, places, &diagrams::explore::NAMES, |step| {
+            let mut again = step.after.clone();
+            assert!(again.step(step.input).map_or(true, |reports| reports.len() == 0), "{}", step.input);
+            assert!(again == *step.after, "{}", step.input);
+            tried += 1;
+        });
     }
     assert!(tried > 10_000, "{tried}");
 }

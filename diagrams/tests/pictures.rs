@@ -3,6 +3,7 @@ use diagrams::explore::{Cause, Edge, Found, Kinds};
 use diagrams::layout::{Layout, Node, Point, Route, Side};
 use diagrams::plan::plan;
 use diagrams::shape::check;
+use diagrams::subject::{Subject, NO_REQUEST, QUEUED};
 use diagrams::svg::svg;
 use hawsermole::Model;
 use std::collections::BTreeMap;
@@ -18,15 +19,17 @@ const fn way(from: Node, to: Node, way: &'static [Point], label: Point) -> Route
 
 fn layout(states: &'static [(u8, Point)], routes: &[Route]) -> Layout {
     let routes = Box::leak(routes.to_vec().into_boxed_slice());
-    Layout { file: "access.svg", model: Model::Access, height: 160, box_width: 170, states, routes }
+    let of = Subject::Model(Model::Access);
+    Layout { file: "access.svg", of, height: 160, box_width: 170, states, routes }
 }
 
 /// The access mode as it is: ChangeAccess leads either way.
 fn found(edges: &[(u8, u8)]) -> Found {
     let causes =
         BTreeMap::from([(Cause { number: 9, choice: Some(1) }, Kinds { fixed: true, internal: true })]);
-    let edge = |&(old, new): &(u8, u8)| (Edge { model: Model::Access, old, new }, causes.clone());
-    Found { first: [(Model::Access, 0)].into(), edges: edges.iter().map(edge).collect(), tools: 1 }
+    let of = Subject::Model(Model::Access);
+    let edge = |&(old, new): &(u8, u8)| (Edge { of, old, new }, causes.clone());
+    Found { first: [(of, 0)].into(), edges: edges.iter().map(edge).collect(), tools: 1 }
 }
 
 fn trouble(states: &'static [(u8, Point)], routes: &[Route], edges: &[(u8, u8)]) -> String {
@@ -49,6 +52,22 @@ fn what_meets_is_drawn() {
         assert!(text.contains(part), "{part}");
     }
     assert!(text.starts_with("<svg ") && text.ends_with("</svg>\n"));
+}
+
+/// A request has neither numbers of its states nor a table in the standard.
+#[test]
+fn a_request_is_drawn_without_numbers() {
+    let causes =
+        BTreeMap::from([(Cause { number: 7, choice: None }, Kinds { fixed: false, internal: true })]);
+    let edge = Edge { of: Subject::Request, old: NO_REQUEST, new: QUEUED };
+    let found = Found { first: [].into(), edges: [(edge, causes)].into(), tools: 1 };
+    let plan = plan(&Layout { of: Subject::Request, ..layout(STATES, &[OUT]) }, &found).unwrap();
+    check(&plan).unwrap();
+    let text = svg(&plan);
+    for part in [">no request</text>", ">queued</text>", ">CarrierOut (I)</text>", ">(I)</text>"] {
+        assert!(text.contains(part), "{part}");
+    }
+    assert!(!text.contains(">0</text>") && !text.contains("the standard"));
 }
 
 #[test]

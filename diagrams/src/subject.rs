@@ -1,0 +1,50 @@
+//! What a picture is of.
+use hawsermole::{Model, Tool};
+
+/// A model of the reports, or the CarrierOut request of a carrier, of which no report tells.
+#[derive(Clone, Copy, Debug, PartialEq, Eq, PartialOrd, Ord)]
+pub enum Subject {
+    Model(Model),
+    Request,
+}
+
+/// The states of a request.
+pub const NO_REQUEST: u8 = 0;
+pub const QUEUED: u8 = 1;
+pub const STARTED: u8 = 2;
+
+/// The state of a carrier's request.
+pub fn request_of(tool: &Tool, name: &[u8]) -> u8 {
+    match tool.requests().find(|request| request.name.as_bytes() == name) {
+        None => NO_REQUEST,
+        Some(request) if request.started == 0 => QUEUED,
+        Some(_) => STARTED,
+    }
+}
+
+impl Subject {
+    pub fn title(self) -> String {
+        match self {
+            Subject::Model(model) => format!("Model {}: {model}", model.number()),
+            Subject::Request => "The CarrierOut request of a carrier".into(),
+        }
+    }
+
+    /// The standard's table of its transitions.
+    pub fn table(self) -> Option<u8> {
+        match self {
+            Subject::Model(model) => Some(model.table()),
+            Subject::Request => None,
+        }
+    }
+
+    /// A state in words.
+    pub fn state(self, state: u8) -> &'static str {
+        match (self, state) {
+            (Subject::Model(model), _) => model.state(state),
+            (Subject::Request, NO_REQUEST) => "no request",
+            (Subject::Request, QUEUED) => "queued",
+            (Subject::Request, _) => "started",
+        }
+    }
+}
