@@ -18,7 +18,7 @@ typedef struct hm_event {
     uint8_t events[3]; /* those of them that want a collection event; zeros after the last */
 } hm_event;
 
-#define HM_EVENTS 75
+#define HM_EVENTS 77
 
 /* Every report that a run can give, HM_EVENTS of them. */
 static inline const hm_event *hm_events(void)
@@ -55,8 +55,6 @@ static inline const hm_event *hm_events(void)
         {6, 6, 0, 1, 7, {12, 0, 0}, {0, 0, 0}}, /* CancelCarrier */
         {6, 6, 2, 4, 7, {16, 0, 0}, {16, 0, 0}}, /* CancelCarrier */
         {6, 7, 0, 1, 7, {17, 0, 0}, {0, 0, 0}}, /* CancelCarrier */
-        {7, 1, 1, 2, 5, {6, 9, 0}, {6, 9, 0}}, /* CarrierOut */
-        {7, 4, 0, 1, 11, {2, 0, 0}, {2, 0, 0}}, /* CarrierOut */
         {8, 1, 2, 3, 5, {7, 0, 0}, {7, 0, 0}}, /* CarrierIn */
         {9, 2, 0, 1, 9, {2, 0, 0}, {2, 0, 0}}, /* ChangeAccess */
         {9, 2, 1, 0, 9, {3, 0, 0}, {3, 0, 0}}, /* ChangeAccess */
@@ -99,6 +97,10 @@ static inline const hm_event *hm_events(void)
         {25, 7, 3, 0, 7, {21, 0, 0}, {0, 0, 0}}, /* UnloadDone */
         {25, 7, 4, 0, 7, {21, 0, 0}, {0, 0, 0}}, /* UnloadDone */
         {26, 1, 3, 2, 5, {10, 5, 0}, {10, 5, 0}}, /* UnloadFail */
+        {27, 3, 0, 1, 10, {2, 0, 0}, {2, 0, 0}}, /* OutStart */
+        {28, 1, 1, 2, 5, {6, 9, 0}, {6, 9, 0}}, /* OutDone */
+        {28, 3, 1, 0, 10, {3, 0, 0}, {3, 0, 0}}, /* OutDone */
+        {28, 4, 0, 1, 11, {2, 0, 0}, {2, 0, 0}}, /* OutDone */
     };
     return events;
 }

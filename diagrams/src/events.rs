@@ -111,7 +111,9 @@ pub fn check(lines: &[Line], found: &Found) -> Result<(), String> {
 /// What a transition is reported as, by each input that causes it; a request's isn't.
 fn reported((edge, causes): (&Edge, &BTreeMap<Cause, Kinds>)) -> Vec<(u32, Model, u8, u8)> {
     match edge.of {
-        Subject::Model(model) => causes.keys().map(|cause| (cause.number, model, edge.old, edge.new)).collect(),
+        Subject::Model(model) => {
+            causes.keys().map(|cause| (cause.number, model, edge.old, edge.new)).collect()
+        }
         Subject::Request => Vec::new(),
     }
 }

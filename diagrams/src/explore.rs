@@ -74,12 +74,10 @@ pub fn explore_from(ports: u32, places: u32, names: &[&[u8]], found: &mut Found)
     found.first.extend(names.iter().map(|name| (Subject::Request, request_of(&start, name))));
     let tools = each_step(ports, places, names, |step| {
         let cause = cause(step.after, step.input);
-        let requests = names.iter().filter_map(|name| of_request(&step, name));
-        let reports = step.reports.into_iter();
-        let reported = reports.map(|report| Edge {
-            of: Subject::Model(report.model),
-            old: report.old,
-            new: report.new,
+        let requests: Vec<Edge> = names.iter().filter_map(|name| of_request(&step, name)).collect();
+        let reported = step.reports.into_iter().map(|report| {
+            let of = Subject::Model(report.model);
+            Edge { of, old: report.old, new: report.new }
         });
         reported.chain(requests).for_each(|edge| found.note(edge, cause, places));
     });

@@ -93,13 +93,13 @@ const ACCESS: Layout = Layout {
 const RESERVATION: Layout = Layout {
     file: "reservation.svg",
     of: Subject::Model(Model::Reservation),
-    height: 165,
+    height: 170,
     box_width: 170,
     states: &[(0, (200, 70)), (1, (565, 70))],
     routes: &[
         route(SetUp, State(0), &[(65, 70), (115, 70)], (55, 70), End),
         route(State(0), State(1), &[(285, 60), (480, 60)], (382, 30), Middle),
-        route(State(1), State(0), &[(480, 80), (285, 80)], (382, 120), Middle),
+        route(State(1), State(0), &[(480, 80), (285, 80)], (382, 130), Middle),
     ],
 };
 
@@ -178,19 +178,19 @@ const ACCESSING: Layout = Layout {
 const REQUEST: Layout = Layout {
     file: "queue.svg",
     of: Subject::Request,
-    height: 200,
+    height: 165,
     box_width: 100,
-    states: &[(NO_REQUEST, (135, 70)), (QUEUED, (415, 70)), (STARTED, (615, 70))],
+    states: &[(NO_REQUEST, (135, 42)), (QUEUED, (415, 42)), (STARTED, (615, 42))],
     routes: &[
-        route(SetUp, State(NO_REQUEST), &[(65, 70), (85, 70)], (55, 70), End),
-        route(State(NO_REQUEST), State(QUEUED), &[(185, 60), (365, 60)], (275, 46), Middle),
-        route(State(QUEUED), State(NO_REQUEST), &[(365, 80), (185, 80)], (275, 112), Middle),
-        route(State(QUEUED), State(STARTED), &[(465, 70), (565, 70)], (515, 56), Middle),
+        route(SetUp, State(NO_REQUEST), &[(65, 42), (85, 42)], (55, 42), End),
+        route(State(NO_REQUEST), State(QUEUED), &[(185, 32), (365, 32)], (275, 18), Middle),
+        route(State(QUEUED), State(NO_REQUEST), &[(365, 52), (185, 52)], (275, 84), Middle),
+        route(State(QUEUED), State(STARTED), &[(465, 42), (565, 42)], (515, 28), Middle),
         route(
             State(STARTED),
             State(NO_REQUEST),
-            &[(615, 92), (615, 180), (135, 180), (135, 92)],
-            (375, 166),
+            &[(615, 64), (615, 150), (135, 150), (135, 64)],
+            (375, 136),
             Middle,
         ),
     ],

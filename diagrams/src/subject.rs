@@ -1,4 +1,5 @@
 //! What a picture is of.
+use hawsermole::states::RequestState;
 use hawsermole::{Model, Tool};
 
 /// A model of the reports, or the CarrierOut request of a carrier, of which no report tells.
@@ -17,7 +18,7 @@ pub const STARTED: u8 = 2;
 pub fn request_of(tool: &Tool, name: &[u8]) -> u8 {
     match tool.requests().find(|request| request.name.as_bytes() == name) {
         None => NO_REQUEST,
-        Some(request) if request.started == 0 => QUEUED,
+        Some(request) if request.started == RequestState::Queued.number() => QUEUED,
         Some(_) => STARTED,
     }
 }
@@ -43,8 +44,8 @@ impl Subject {
         match (self, state) {
             (Subject::Model(model), _) => model.state(state),
             (Subject::Request, NO_REQUEST) => "no request",
-            (Subject::Request, QUEUED) => "queued",
-            (Subject::Request, _) => "started",
+            (Subject::Request, QUEUED) => RequestState::Queued.word(),
+            (Subject::Request, _) => RequestState::Started.word(),
         }
     }
 }

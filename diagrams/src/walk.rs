@@ -187,7 +187,7 @@ mod tests {
                 "| OutDone(1) | `0  1 1 1>2; 3 1 1>0; 4 1 0>1` | \
                  port 1: READY TO UNLOAD, tied to AB, pod, tag read<br>\
                  AB: at port 1, closed, ID 3, slot 1, accessing 1, came out<br>queue: AC to port 1 |",
-                "| CancelAllCarrierOut() | `0  none` | queue: empty |",
+                "| CancelAllCarrierOut | `0  none` | queue: empty |",
             ]
         );
     }

@@ -4,7 +4,7 @@ use crate::Model;
 
 /// Every report that a run can give, by input and then by model.
 #[rustfmt::skip]
-pub const EVENTS: [Event; 75] = [
+pub const EVENTS: [Event; 77] = [
     event(1, Model::Reservation, 0, 1, &[2], &[2], ""),
     event(1, Model::Tie, 0, 1, &[2], &[2], ""),
     event(1, Model::Id, 0, 1, &[1, 2], &[2], "#1 requires no event"),
@@ -36,8 +36,6 @@ pub const EVENTS: [Event; 75] = [
     event(6, Model::Slot, 0, 1, &[12], &[], "no event is required: that of model 5 has the entry states"),
     event(6, Model::Slot, 2, 4, &[16], &[16], ""),
     event(6, Model::Accessing, 0, 1, &[17], &[], "no event is required: that of model 5 has the entry states"),
-    event(7, Model::Transfer, 1, 2, &[6, 9], &[6, 9], "one step, sent when the pod has arrived: TRANSFER BLOCKED lasts no time (N16)"),
-    event(7, Model::Tie, 0, 1, &[2], &[2], ""),
     event(8, Model::Transfer, 2, 3, &[7], &[7], ""),
     event(9, Model::Access, 0, 1, &[2], &[2], ""),
     event(9, Model::Access, 1, 0, &[3], &[3], ""),
@@ -80,4 +78,8 @@ pub const EVENTS: [Event; 75] = [
     event(25, Model::Accessing, 3, 0, &[21], &[], "the same transition as model 5's: one event for the carrier"),
     event(25, Model::Accessing, 4, 0, &[21], &[], "the same transition as model 5's: one event for the carrier"),
     event(26, Model::Transfer, 3, 2, &[10, 5], &[10, 5], ""),
+    event(27, Model::Reservation, 0, 1, &[2], &[2], ""),
+    event(28, Model::Transfer, 1, 2, &[6, 9], &[6, 9], "one step, sent when the pod has arrived: TRANSFER BLOCKED lasts no time (N16)"),
+    event(28, Model::Reservation, 1, 0, &[3], &[3], "the carrier has arrived (N54)"),
+    event(28, Model::Tie, 0, 1, &[2], &[2], "the standard has it when the move starts (N131)"),
 ];
