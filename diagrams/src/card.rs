@@ -1,5 +1,5 @@
 //! The card for the pocket, `docs/CARD.md`: refusals, models, states and inputs by number, in the words of the crate.
-use hawsermole::states::{Movement, Place, SlotCode, Tag};
+use hawsermole::states::{Movement, Place, RequestState, SlotCode, Tag};
 use hawsermole::{Model, Refusal, ROWS};
 
 /// The first thing to do about a refusal, in fewer words than the manual's.
@@ -11,7 +11,7 @@ fn first_thing(refusal: Refusal) -> &'static str {
             "take the announcement back first; IdRead: the name is elsewhere, keep the pod closed"
         }
         Refusal::ReservedOrTied => {
-            "another port; or CancelBind (tied), CancelReservationAtPort (reserved), OutDone (CarrierOut started)"
+            "another port; or CancelBind (tied), CancelReservationAtPort (reserved), OutDone (out started)"
         }
         Refusal::Conditions => {
             "move nothing, wait for the report that brings it; if it has moved, stop the port"
@@ -21,8 +21,8 @@ fn first_thing(refusal: Refusal) -> &'static str {
             "pod stays closed: ProceedWithCarrier or CancelCarrier; cancelled or FAILED: unload"
         }
         Refusal::PlaceOrOpenerTaken => "MoveIn: another place. Open: close the one that is open",
-        Refusal::QueueFull => "16 requests wait, this one among them: OutStart and OutDone, or cancel some",
-        Refusal::QueuedAlready => "nothing; for another port CancelCarrierOut first, if it isn't started",
+        Refusal::QueueFull => "nothing: it is one of the 16 that are queued",
+        Refusal::QueuedAlready => "nothing; for another port CancelCarrierOut first",
         Refusal::RoomTooSmall => "lend 95 bytes of room, and take the message again",
         Refusal::CutShort => "bytes lost, or a length that is too large",
         Refusal::UnknownCode => "JIS-8, or another text format",
@@ -77,10 +77,11 @@ pub fn card() -> String {
     text += "\nOn the wire (E87.1): transfer 1, 2, 3 are 2, 3, 1 there; models 5 to 7 are one less. \
              A tie 1>1 has passed to another carrier.\n\n";
     text += &format!(
-        "Movement: {}. Tag: {}. Place: {}.\n",
+        "Movement: {}. Tag: {}. Place: {}. Request: {}.\n",
         numbered!(Movement),
         numbered!(Tag),
-        numbered!(Place)
+        numbered!(Place),
+        numbered!(RequestState)
     );
     text += &format!("Slot: {}.\n\n", numbered!(SlotCode));
     let inputs: Vec<String> = ROWS.iter().map(|row| format!("{}\u{a0}{}", row.number, row.name)).collect();
