@@ -2,7 +2,6 @@
 #![forbid(unsafe_code)]
 
 use diagrams::explore::{explore, explore_from, Found, NAMES};
-use diagrams::subject::Subject;
 use diagrams::walk::walk;
 use diagrams::{made, pictures};
 use hawsermole::EVENTS;
@@ -119,11 +118,7 @@ fn list(found: &Found) -> String {
     for (edge, causes) in &found.edges {
         let causes: Vec<String> =
             causes.iter().map(|(&cause, &kinds)| diagrams::text::cause(*edge, cause, kinds)).collect();
-        let of = match edge.of {
-            Subject::Model(model) => model.number().to_string(),
-            Subject::Request => "out".into(),
-        };
-        text += &format!("{of} {}>{}  {}\n", edge.old, edge.new, causes.join(", "));
+        text += &format!("{} {}>{}  {}\n", edge.of.short(), edge.old, edge.new, causes.join(", "));
     }
     text
 }

@@ -24,6 +24,14 @@ pub fn request_of(tool: &Tool, name: &[u8]) -> u8 {
 }
 
 impl Subject {
+    /// Its number, or `out` as in a dump of the command line.
+    pub fn short(self) -> String {
+        match self {
+            Subject::Model(model) => model.number().to_string(),
+            Subject::Request => "out".into(),
+        }
+    }
+
     pub fn title(self) -> String {
         match self {
             Subject::Model(model) => format!("Model {}: {model}", model.number()),

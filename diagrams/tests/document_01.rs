@@ -40,18 +40,11 @@ const ROWS: [(u32, &str); 28] = [
     (30, "out 1>0"),
 ];
 
-fn short(subject: Subject) -> String {
-    match subject {
-        Subject::Model(model) => model.number().to_string(),
-        Subject::Request => "out".into(),
-    }
-}
-
 fn by_row(found: &Found) -> BTreeMap<u32, BTreeSet<String>> {
     let mut rows: BTreeMap<u32, BTreeSet<String>> = BTreeMap::new();
     for (edge, causes) in &found.edges {
         for cause in causes.keys() {
-            let change = format!("{} {}>{}", short(edge.of), edge.old, edge.new);
+            let change = format!("{} {}>{}", edge.of.short(), edge.old, edge.new);
             rows.entry(cause.number).or_default().insert(change);
         }
     }
@@ -95,7 +88,7 @@ fn requests_are_of_tools_with_a_buffer() {
 #[test]
 fn ports_begin_as_document_01_says() {
     let first: Vec<(String, u8)> =
-        FOUND.first.iter().map(|&(subject, state)| (short(subject), state)).collect();
+        FOUND.first.iter().map(|&(subject, state)| (subject.short(), state)).collect();
     let written = [("1", 1), ("2", 0), ("3", 0), ("4", 0), ("out", 0)];
     assert_eq!(first, written.map(|(subject, state)| (subject.into(), state)));
 }
