@@ -1,4 +1,4 @@
--- The record of a name in sixteen bytes, as it is seen by them.
+-- A name in sixteen bytes is the name of these bytes.
 use Prim.Native.Nat.{ℕ, zero, suc}
 use native.Mathlib.Omega.{arith}
 use mathlib.Core.Path.{_≡_, refl, ap}
@@ -7,9 +7,6 @@ use lib.ListN.{length}
 use Rattle.lists.specs.Lists.{fill}
 use Rattle.records.specs.declared.name.Name.{Name}
 use Rattle.records.specs.Names.{inBytes}
-use Rattle.rules.specs.State.{State}
-use Rattle.rules.specs.Seen.{inputOf, see}
-use Rattle.queue.specs.Requests.{carrierOf}
 
 fill-all : (l : List ℕ) (n : ℕ) → length l ≡ n → fill n 0 l ≡ l
 unfolding fill
@@ -21,8 +18,3 @@ fill-all (x ∷ l) (suc n) e = ap (λ t. x ∷ t) (fill-all l n (omega arith))
 pub name-stays : (n : Name) → length (n .bytes) ≡ 16 → inBytes (n .bytes) ≡ n
 unfolding inBytes
 name-stays n e = rw (fill-all (n .bytes) 16 e)
-
-pub found-named : (s : State) (n : Name) (codes : List ℕ) → length (n .bytes) ≡ 16
-    → see s (inputOf 0 0 0 (n .bytes) codes) .found ≡ carrierOf s n
-unfolding see carrierOf
-found-named s n codes e = rw (name-stays n e)

@@ -6,6 +6,7 @@ ghost use lib.ListN.{getD, take, drop};
 ghost use Rattle.lists.specs.Lists.{every, everyTwo};
 ghost use Rattle.rules.specs.State.{stateOf};
 ghost use Rattle.rules.specs.Held.{Held};
+ghost use Rattle.rules.specs.Seen.{nameStands};
 ghost use Rattle.image.specs.Image.{toolFrom};
 ghost use Rattle.queue.specs.Requests.{noRequest, carrierOf, mayLeave};
 ghost use Rattle.queue.specs.Sound.{keptFree, zeroRequest};
@@ -16,25 +17,42 @@ use crate::read::request_at;
 use crate::read::waiting;
 use follow::blocks::BLOCKS;
 use image::layout::*;
+use image::read::count;
+use image::read::name_from;
 use image::read::port_at;
+use image::read::record_at;
 use image::read::used;
 use passes::bytes::zeros;
 use queue::request::*;
 use records::carrier::Carrier;
+use records::choose::either;
 use records::choose::wide;
 use records::name::Name;
 use records::port::Port;
 use records::words::*;
-use sight::look::look;
+
+// Where the record of a name stands; the number of records where there is none.
+fn name_stands(m: &[u8; TOOL_BYTES], name: Name) -> usize
+    requires { ⌜ Held (toolFrom (now m)) ⌝ }
+    ensures { λ r. ⌜ r ≡ nameStands (stateOf (toolFrom (now (m .entry)))) name ⌝ }
+{
+    let n = wide(count(m));
+    let mut stands = n;
+    let mut k = n;
+    while 0 < k {
+        k -= 1;
+        let c = name_from(m, RECORDS_START + CARRIER_BYTES * k);
+        stands = either(c.same(name), k, stands);
+    }
+    stands
+}
 
 // The record of a name, or no carrier.
 pub fn carrier_named(m: &[u8; TOOL_BYTES], name: Name) -> Carrier
     requires { ⌜ Held (toolFrom (now m)) ⌝ }
     ensures { λ r. ⌜ r ≡ carrierOf (stateOf (toolFrom (now (m .entry)))) name ⌝ }
 {
-    let text = name.bytes;
-    let x = look(m, 0, 0, &text, &text);
-    x.found
+    record_at(m, name_stands(m, name))
 }
 
 // Closed and not in access.
