@@ -147,13 +147,11 @@ fn none_after(own: &[u8; TOOL_BYTES], n: usize) -> bool
     requires { ⌜ n ≤ 16 ⌝ }
     ensures { λ r. ⌜ r ≡ every zeroRequest (drop n (queueFrom (now (own .entry)))) ⌝ }
 {
-    let mut ok = true;
-    let mut k = QUEUE;
-    while n < k {
-        k -= 1;
-        ok = zeros(own, QUEUE_START + REQUEST_BYTES * k, REQUEST_BYTES) & ok;
-    }
-    ok
+    zeros(
+        own,
+        QUEUE_START + REQUEST_BYTES * n,
+        REQUEST_BYTES * (QUEUE - n),
+    )
 }
 
 // Whether the queue is sound, with document 01's tool, which is.
