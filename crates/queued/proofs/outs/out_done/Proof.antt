@@ -61,7 +61,8 @@ told c = c .some-started-to .ensures ∙ ap (λ p. any (startedTo p) (line (star
 
 -- where the request stands, and the request
 stood : (c : tie.After-look) → c .before .before .before .before .before .before .before .before .started-stands .result ≡ startedStands (narrow (start c .args .port)) (line (start c))
-stood c = c .before .before .before .before .before .before .before .before .started-stands .ensures ∙ ap (λ p. startedStands p (line (start c))) (c .before .before .before .before .before .before .before .before .before .narrow .ensures)
+stood c = c .before .before .before .before .before .before .before .before .started-stands .ensures
+    ∙ ap (λ p. startedStands p (line (start c))) (c .before .before .before .before .before .before .before .before .before .narrow .ensures)
 
 named : (c : tie.After-look)
     → c .before .before .before .before .before .before .request-at .result ≡ getD (line (start c)) (startedStands (narrow (start c .args .port)) (line (start c))) noRequest
@@ -174,6 +175,7 @@ out-done-spec =
     (tie.spec (λ c κs. tt) (λ c. search needs) (λ c κs. tt) (λ c κs. let s = c .before .before .before .before .before .before .before in holds (s .args .m .now) (s .pre))
     (λ c. search needs) (λ c κs. tt) (λ c. search needs) (λ c. search needs) (λ c. search needs)
     (λ c κs. let s = c .before .before .before .before .before .before .before .before .before .before .before .before .before .before .before in held (s .args .m .now) (s .pre))
-    (λ c. search needs) (λ c κs. tt) (λ c κs. let s = c .before .before .before .before .before .before .before .before .before .before .before .before .before .before .before .before .before .before in holds (s .args .m .now) (s .pre))
+    (λ c. search needs) (λ c κs. tt)
+    (λ c κs. let s = c .before .before .before .before .before .before .before .before .before .before .before .before .before .before .before .before .before .before in holds (s .args .m .now) (s .pre))
     (λ c. search needs) (λ c κs. tt) carry-out-requires (λ c. search needs) remove-requires (λ c. search needs) (λ c κs. tt) (λ c κs. tt)
     returns returns-2)

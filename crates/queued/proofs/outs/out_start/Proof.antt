@@ -149,14 +149,16 @@ returns-3 c =
     let m = s .args .m .now in
     let e = nothing-taken (state s) (input s) (state-sound m (s .pre)) refl (none t) in
     let f = c .before .first .ensures ∙ ap orFive (reserved r) in
-    refused-left m (s .pre) (input s) (c .before .first .result) _ _ (e ∙ sym f) (λ z. some-number (judge (reserveAtPort (see (baseOf (state s)) (ReserveAtPort (s .args .port))) .grounds)) (sym f ∙ z))
+    refused-left m (s .pre) (input s) (c .before .first .result) _ _ (e ∙ sym f)
+    (λ z. some-number (judge (reserveAtPort (see (baseOf (state s)) (ReserveAtPort (s .args .port))) .grounds)) (sym f ∙ z))
     (c .unmoved .ensures .0) (c .unmoved .ensures .1)
 
 pub out-start-spec : {M : Type 1} → statement M
 out-start-spec =
     tie.close
     (tie.spec (λ c. search needs) (λ c κs. tt) (λ c κs. tt) (λ c κs. tt) ready-stands-requires
-    (λ c. search needs) (λ c. search needs) (λ c κs. let s = c .before .before .before .before .before .before .before .before .before .before .before .before .before in mapped-sound (s .args .m .now) (s .pre))
+    (λ c. search needs) (λ c. search needs)
+    (λ c κs. let s = c .before .before .before .before .before .before .before .before .before .before .before .before .before in mapped-sound (s .args .m .now) (s .pre))
     (λ c κs. tt) (λ c. search needs) begin-requires
     (λ c. search needs) (λ c. search needs) (λ c. search needs)
     (λ c κs. let s = c .before .before .before .before .before .before .before .before .before .before .before .before in held (s .args .m .now) (s .pre))

@@ -40,7 +40,8 @@ pub queued-step-spec : {M : Type 1} → statement M
 queued-step-spec =
     tie.close
     (tie.spec (λ c κs. search needs) (λ c κs. search needs) (λ c κs. (search needs, refl)) (λ c κs. (search needs, refl))
-    (λ c κs. search needs) (λ c κs. search needs) (λ c κs. search needs) (λ c κs. search needs) (λ c κs. search needs) (λ c κs. let s = c .before .before .before .before .before in mapped-sound (s .args .m .now) (s .pre))
+    (λ c κs. search needs) (λ c κs. search needs) (λ c κs. search needs) (λ c κs. search needs) (λ c κs. search needs)
+    (λ c κs. let s = c .before .before .before .before .before in mapped-sound (s .args .m .now) (s .pre))
     (λ c. rw (c .before .before .before .match .keys1) (c .cancel-carrier .ensures))
     (λ c. rw (c .before .before .before .match .keys2) (c .carrier-out .ensures))
     (λ c. rw (c .before .before .before .match .keys3) (c .at-port .ensures))
