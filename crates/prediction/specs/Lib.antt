@@ -1,0 +1,6 @@
+pub mod Model
+pub mod Predictions
+pub mod State
+pub mod Sound
+pub mod Outcome
+pub mod Cases

@@ -1,0 +1,2 @@
+// Request P7: prediction of ready to unload.
+pub mod prediction;
