@@ -1,1 +1,3 @@
 pub mod Cases
+pub mod Projected
+pub mod Promised

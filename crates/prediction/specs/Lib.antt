@@ -4,3 +4,5 @@ pub mod State
 pub mod Sound
 pub mod Outcome
 pub mod Cases
+pub mod Projection
+pub mod Promise
