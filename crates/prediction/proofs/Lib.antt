@@ -1,3 +1,4 @@
 pub mod Cases
 pub mod Projected
 pub mod Promised
+pub mod Modelled
