@@ -2,3 +2,4 @@ pub mod Cases
 pub mod Projected
 pub mod Promised
 pub mod Modelled
+pub mod Fitting
