@@ -3,3 +3,4 @@ pub mod Projected
 pub mod Promised
 pub mod Modelled
 pub mod Fitting
+pub mod Effects

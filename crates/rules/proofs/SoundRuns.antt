@@ -35,7 +35,7 @@ use Rattle.rules.proofs.KeepArrivals.{bind-keeps, carrier-notification-
 use Rattle.rules.proofs.KeepArrivals.{id-read-failed-keeps, move-in-keeps}
 use Rattle.rules.proofs.KeepVerdict.{proceed-with-carrier-keeps, cancel-carrier-keeps}
 
-rows-keep : (s : State) (i : Input) → Facts s → (n : ℕ) → judge (rowOf n (see s i) .grounds) ≡ 0
+pub rows-keep : (s : State) (i : Input) → Facts s → (n : ℕ) → judge (rowOf n (see s i) .grounds) ≡ 0
     → Apt s (rowOf n (see s i) .effect) → Keeps s (rowOf n (see s i) .effect)
 rows-keep s i f = walk-accepting (λ _ e. Apt s e → Keeps s e) (see s i) (record {
   bind = bind-keeps s i f;
