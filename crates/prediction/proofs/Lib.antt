@@ -4,3 +4,4 @@ pub mod Promised
 pub mod Modelled
 pub mod Fitting
 pub mod Effects
+pub mod Pairs
