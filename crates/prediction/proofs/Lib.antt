@@ -5,3 +5,4 @@ pub mod Modelled
 pub mod Fitting
 pub mod Effects
 pub mod Pairs
+pub mod SoundRuns
