@@ -6,3 +6,4 @@ pub mod Fitting
 pub mod Effects
 pub mod Pairs
 pub mod SoundRuns
+pub mod Placed
