@@ -13,6 +13,7 @@ use Rattle.records.specs.Carriers.{noCarrier}
 use Rattle.rules.specs.State.{State}
 use Rattle.prediction.specs.declared.prediction.Prediction.{Prediction}
 use Rattle.prediction.specs.Model.{Facts}
+use Rattle.prediction.specs.Predictions.{noPrediction}
 use Rattle.prediction.specs.State.{isFixed}
 use Rattle.prediction.specs.Sound.{fits, isNone, eachFits}
 use Rattle.prediction.specs.Outcome.{along, allAlong}
@@ -68,10 +69,17 @@ module _ {Q : Carrier → Prediction → Type 0} where
 
   -- a prediction changes
   pub pairs-put : (k : ℕ) (p : Prediction) {cs : List Carrier} {ps : List Prediction} → Pairs Q cs ps
-      → (k < length cs → (o : Prediction) → Q (getD cs k noCarrier) o → Q (getD cs k noCarrier) p) → Pairs Q cs (set ps k p)
+      → (k < length cs → Q (getD cs k noCarrier) p) → Pairs Q cs (set ps k p)
   pairs-put k p none f = none
-  pairs-put zero p (more q r) f = more (f (omega arith) _ q) r
+  pairs-put zero p (more q r) f = more (f (omega arith)) r
   pairs-put (suc k) p (more q r) f = more q (pairs-put k p r (λ b. f (omega arith)))
+
+  -- one of them
+  pub pairs-at : {cs : List Carrier} {ps : List Prediction} → Pairs Q cs ps → (k : ℕ) → k < length cs
+      → Q (getD cs k noCarrier) (getD ps k noPrediction)
+  pairs-at none k b = absurd (omega arith)
+  pairs-at (more q r) zero b = q
+  pairs-at (more q r) (suc k) b = pairs-at r k (omega arith)
 
 -- each by what holds of its carrier
 module _ {Q R : Carrier → Prediction → Type 0} where

@@ -6,7 +6,7 @@ use mathlib.Core.Bool.{Bool, true, false, not, cond, _&&_, _||_}
 use mathlib.Core.List.{List, [], _∷_}
 use lib.ListN.{length, getD, set}
 use lib.Dec.{eqb, leb, ltb}
-use borrow.Author.Tests.{eqb-true, eq-eqb, leb-true}
+use borrow.Author.Tests.{eqb-true, eqb-false, eq-eqb, leb-true}
 use Rattle.lists.specs.Lists.{between, without, withNew}
 use Rattle.lists.proofs.Bools.{clash, and-l, and-r, and-i, or-l, or-r, or-other, not-true}
 use Rattle.records.specs.declared.carrier.Carrier.{Carrier}
@@ -14,6 +14,7 @@ use Rattle.records.specs.Carriers.{noCarrier, expected, atPort}
 use Rattle.rules.specs.declared.row.Effect.{Effect}
 use Rattle.rules.specs.State.{State, recordOf}
 use Rattle.rules.specs.Row as row
+use Rattle.rules.proofs.SoundParts.{Facts, Stands}
 use Rattle.follow.specs.Follow.{followed}
 use Rattle.prediction.specs.declared.prediction.Prediction.{Prediction}
 use Rattle.prediction.specs.Model.{waitingForCarrier}
@@ -101,3 +102,41 @@ pairs-kept s t goes made c ps h =
     pairs-use h (λ j b p f. near-kept (isFixed s) _ p (fit-near s _ p f)) in
     rw (c .leads, c .goesSo, c .madeSo)
     (effect-keeps s e (c .awaits) (isFixed s) (firstPrediction s) ps k (new-kept s (e .next)))
+
+-- ── In a sound state of a fixed buffer tool whoever isn't expected is at a port ──
+placed-there : (t : State) → Facts t → isFixed t ≡ true → (k : ℕ) → k < length (t .carriers) → expected (recordOf t k) ≡ false
+    → atPort (recordOf t k) ≡ true
+placed-there t f b k l e =
+    let c = recordOf t k in
+    let g = f .records k l .stands in
+    let z = eqb-true (t .places) 0 b in
+    go (atPort c) refl g z (eqb-false (c .place) 0 e)
+  where
+    c : Carrier
+    c = recordOf t k
+
+    go : (w : Bool) → atPort c ≡ w → Stands (length (t .ports)) (t .places) (c .place) (c .spot) (c .port) → t .places ≡ 0
+        → (c .place ≡ 0 → ⊥) → w ≡ true
+    go true w g z o = refl
+    go false w g z o =
+        let p = g .placeRange in
+        let q = eqb-false (c .place) 1 w in
+        let two : c .place ≡ 2 = omega (arith, q, o) in
+        let r = g .inSpot two in
+        let u = r .0 in
+        let v = r .1 in
+        absurd (omega arith)
+
+pub kept-near : (t : State) → Facts t → (b : Bool) → isFixed t ≡ b → (ps : List Prediction) → Pairs (Kept b) (t .carriers) ps
+    → Pairs (Near b) (t .carriers) ps
+unfolding recordOf leftAtPort
+kept-near t f b q ps h =
+    pairs-use h (λ k l p g. record {
+      near = λ e. record { range = g .range e; left = go k l p (eqb (p .state) waitingForCarrier) (g .placed e) (q ∙ e) };
+      none = g .none;
+    })
+  where
+    go : (k : ℕ) → k < length (t .carriers) → (p : Prediction) (w : Bool) → (w || not (expected (getD (t .carriers) k noCarrier))) ≡ true
+        → isFixed t ≡ true → (w || atPort (getD (t .carriers) k noCarrier)) ≡ true
+    go k l p true g e = refl
+    go k l p false g e = placed-there t f e k l (not-true _ g)
