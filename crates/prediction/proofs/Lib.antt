@@ -7,3 +7,4 @@ pub mod Effects
 pub mod Pairs
 pub mod SoundRuns
 pub mod Placed
+pub mod SoundAfter

@@ -26,7 +26,7 @@ unfoldable pub timesInRange : Times → Bool
 timesInRange t = isTime (t .now) && isSpan (t .setting) && isSpan (t .timeout)
 
 -- a time that is there, or 0
-abbrev timeOrNone : ℕ → ℕ → Bool
+abbrev pub timeOrNone : ℕ → ℕ → Bool
 timeOrNone there n = leb there 1 && isTime n && (eqb there 1 || eqb n 0)
 
 unfoldable pub inRange : Prediction → Bool
