@@ -8,3 +8,4 @@ pub mod Pairs
 pub mod SoundRuns
 pub mod Placed
 pub mod SoundAfter
+pub mod Sounds

@@ -104,7 +104,7 @@ pairs-kept s t goes made c ps h =
     (effect-keeps s e (c .awaits) (isFixed s) (firstPrediction s) ps k (new-kept s (e .next)))
 
 -- ── In a sound state of a fixed buffer tool whoever isn't expected is at a port ──
-placed-there : (t : State) → Facts t → isFixed t ≡ true → (k : ℕ) → k < length (t .carriers) → expected (recordOf t k) ≡ false
+pub placed-there : (t : State) → Facts t → isFixed t ≡ true → (k : ℕ) → k < length (t .carriers) → expected (recordOf t k) ≡ false
     → atPort (recordOf t k) ≡ true
 placed-there t f b k l e =
     let c = recordOf t k in

@@ -135,13 +135,13 @@ belowIn s i =
     })
 
 module _ (s : Predicted) (i : Timed) where
-  abbrev number : ℕ
+  abbrev pub number : ℕ
   number = i .input .number
 
-  abbrev below : Below
+  abbrev pub below : Below
   below = belowIn s (i .input)
 
-  abbrev after : State
+  abbrev pub after : State
   after = queue-state.baseOf (below .after)
 
   -- now is the clock that one of the four brings, and else the last one accepted
@@ -156,10 +156,10 @@ module _ (s : Predicted) (i : Timed) where
   abbrev pub spot : ℕ
   spot = see after (i .input) .stands
 
-  abbrev own : Prediction
+  abbrev pub own : Prediction
   own = written number timesThen (i .time) (getD first spot noPrediction)
 
-  abbrev ownMoved : Moved
+  abbrev pub ownMoved : Moved
   ownMoved = along (ownFacts number timesThen (getD first spot noPrediction) (isReady after (recordOf after spot))) own
 
   abbrev pub second : List Prediction
