@@ -7,5 +7,5 @@ pub mod Effects
 pub mod Pairs
 pub mod SoundRuns
 pub mod Placed
-pub mod SoundAfter
+pub mod Written
 pub mod Sounds

@@ -1,4 +1,4 @@
--- Every input keeps a sound state sound, and so is every state that a run reaches.
+-- What the transitions of a carrier ask by what an input does, and what an input writes of its prediction.
 use Prim.Native.Nat.{ℕ, _<_, _≤_}
 use native.Mathlib.Omega.{arith}
 use mathlib.Core.Path.{_≡_, refl, ap, sym, subst, _∙_}
@@ -28,7 +28,7 @@ use Rattle.prediction.proofs.Pairs.{Pairs, Fit, pairs-of, pairs-fit, pa
 use Rattle.prediction.proofs.SoundRuns.{Near, fit-near}
 
 -- ── What the transitions ask ──
-own-ready : (n : ℕ) (t : Times) (p : Prediction) (b : Bool) → ownFacts n t p b .ready ≡ b
+pub own-ready : (n : ℕ) (t : Times) (p : Prediction) (b : Bool) → ownFacts n t p b .ready ≡ b
 unfolding ownFacts
 own-ready n t p b = go (eqb n 6) (eqb n 21) (eqb n 34)
   where
@@ -38,7 +38,7 @@ own-ready n t p b = go (eqb n 6) (eqb n 21) (eqb n 34)
     go false false true = refl
     go false false false = refl
 
-own-taken : (n : ℕ) (t : Times) (p : Prediction) (b : Bool) → ownFacts n t p b .taken ≡ true → (eqb n 6 || eqb n 21) ≡ true
+pub own-taken : (n : ℕ) (t : Times) (p : Prediction) (b : Bool) → ownFacts n t p b .taken ≡ true → (eqb n 6 || eqb n 21) ≡ true
 unfolding ownFacts
 own-taken n t p b = go (eqb n 6) (eqb n 21) (eqb n 34)
   where
@@ -48,7 +48,7 @@ own-taken n t p b = go (eqb n 6) (eqb n 21) (eqb n 34)
     go false false true e = clash e refl
     go false false false e = clash e refl
 
-all-ready : (n : ℕ) (t : Times) (s : State) (c : Carrier) (p : Prediction) → allFacts n t s c p .ready ≡ isReady s c
+pub all-ready : (n : ℕ) (t : Times) (s : State) (c : Carrier) (p : Prediction) → allFacts n t s c p .ready ≡ isReady s c
 unfolding allFacts
 all-ready n t s c p = go (isTimed n)
   where
@@ -56,7 +56,7 @@ all-ready n t s c p = go (isTimed n)
     go true = refl
     go false = refl
 
-all-untaken : (n : ℕ) (t : Times) (s : State) (c : Carrier) (p : Prediction) → allFacts n t s c p .taken ≡ false
+pub all-untaken : (n : ℕ) (t : Times) (s : State) (c : Carrier) (p : Prediction) → allFacts n t s c p .taken ≡ false
 unfolding allFacts
 all-untaken n t s c p = go (isTimed n)
   where
