@@ -9,3 +9,4 @@ pub mod SoundRuns
 pub mod Placed
 pub mod Written
 pub mod Sounds
+pub mod Hosted

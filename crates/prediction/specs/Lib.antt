@@ -6,3 +6,4 @@ pub mod Outcome
 pub mod Cases
 pub mod Projection
 pub mod Promise
+pub mod Host

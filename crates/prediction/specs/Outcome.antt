@@ -172,11 +172,11 @@ module _ (s : Predicted) (i : Timed) where
   enact = record { queued = below .after; times = timesThen; predictions = third }
 
   -- ── Reports of model 8, in turn: one that goes, one that is made, the named carrier's own, then each in record order ──
-  abbrev gone : List Report
+  abbrev pub gone : List Report
   gone = told (recordOf (baseOf s) (below .goes) .name) (getD (s .predictions) (below .goes) noPrediction .state)
       (cond (eqb (getD (s .predictions) (below .goes) noPrediction .state) 0) [] (0 ∷ []))
 
-  abbrev fresh : List Report
+  abbrev pub fresh : List Report
   fresh = cond (below .made && isFixed (baseOf s)) (told (see after (i .input) .name) 0 (waitingForCarrier ∷ [])) []
 
   abbrev pub eight : List Report
