@@ -1,7 +1,7 @@
 -- What a host may count on: every report of model 8 is a transition, or of a record made or gone.
 use Prim.Native.Nat.{ℕ, _≤_, _<_}
 use native.Mathlib.Omega.{arith}
-use mathlib.Core.Path.{_≡_, refl, ap, sym, _∙_}
+use mathlib.Core.Path.{_≡_, refl, ap, sym, subst, _∙_}
 use mathlib.Core.Bool.{Bool, true, false, not, cond, _&&_, _||_}
 use mathlib.Core.List.{List, [], _∷_, _++_}
 use lib.ListN.{getD}
@@ -12,16 +12,17 @@ use Rattle.lists.proofs.Bools.{clash, and-l, and-r, and-i, or-l, or-r}
 use Rattle.records.specs.declared.name.Name.{Name}
 use Rattle.records.specs.declared.carrier.Carrier.{Carrier}
 use Rattle.rules.specs.declared.report.Report.{Report}
-use Rattle.rules.specs.State.{recordOf}
+use Rattle.rules.specs.State.{State, recordOf}
 use Rattle.rules.specs.Seen.{see}
 use Rattle.prediction.specs.declared.prediction.Prediction.{Prediction}
 use Rattle.prediction.specs.Model.{Facts, Transition, transitions, course, lastOf, waitingForCarrier, waitingForPrediction}
-use Rattle.prediction.specs.Predictions.{noPrediction, withTp, withTe, Times}
+use Rattle.prediction.specs.Predictions.{noPrediction, withTp, withTe, hasTp, Times, isSoon, onJudging}
 use Rattle.prediction.specs.State.{Predicted, baseOf, Timed, isFixed}
+use Rattle.prediction.specs.Sound.{isReady}
 use Rattle.prediction.specs.Outcome as outcome
-use Rattle.prediction.specs.Outcome.{along, told, allTold, cancels, written}
-use Rattle.prediction.specs.Host.{isStep, isMade, isGone, inModel}
-use Rattle.prediction.proofs.Modelled.{leads, stepsLead, course-leads}
+use Rattle.prediction.specs.Outcome.{isTimed, along, told, allTold, cancels, written}
+use Rattle.prediction.specs.Host.{isStep, isMade, isGone, inModel, notForgotten}
+use Rattle.prediction.proofs.Modelled.{leads, stepsLead, course-leads, soon-left}
 
 -- ── Reports ──
 -- what leads by the table is a step of it
@@ -119,3 +120,26 @@ module _ (s : Predicted) (i : Timed) where
       (own-model _ _ (named .state) _ (same-state (i .input .number) (outcome.timesThen s i) (i .time) named)))
       (all-steps (outcome.allFacts (i .input .number) (outcome.timesThen s i) (outcome.after s i)) (outcome.after s i .carriers)
       (outcome.second s i))
+
+-- ── Nobody is forgotten ──
+all-judged : (n : ℕ) (u : Times) (st : State) (c : Carrier) (p : Prediction) → isTimed n ≡ true
+    → outcome.allFacts n u st c p ≡ onJudging u p (isReady st c)
+unfolding outcome.allFacts
+all-judged n u st c p t = rw t
+
+-- after one of 31 to 34 that is accepted
+module _ (s : Predicted) (i : Timed) (t : isTimed (i .input .number) ≡ true) where
+  abbrev judging : Carrier → Prediction → Facts
+  judging c p = onJudging (outcome.timesThen s i) p (isReady (outcome.after s i) c)
+
+  judged-moves : (c : Carrier) (p : Prediction) → p .state ≤ 6
+      → notForgotten (outcome.timesThen s i) (along (judging c p) p .prediction) ≡ true
+  unfolding notForgotten isSoon
+  judged-moves c p l = soon-left (p .state) l (judging c p)
+
+  pub none-forgotten : (c : Carrier) (p : Prediction) → p .state ≤ 6
+      → notForgotten (outcome.timesThen s i) (along (outcome.allFacts (i .input .number) (outcome.timesThen s i) (outcome.after s i) c p) p .prediction)
+      ≡ true
+  none-forgotten c p l =
+      subst (λ f. notForgotten (outcome.timesThen s i) (along f p .prediction) ≡ true)
+      (sym (all-judged (i .input .number) (outcome.timesThen s i) (outcome.after s i) c p t)) (judged-moves c p l)

@@ -119,6 +119,14 @@ pub soon-moves : (s : ℕ) → s ≤ 6 → (f : Facts) → notWaiting s (lastOf 
 unfolding every passed next lastOf
 soon-moves = of-each notWaiting refl
 
+-- and nobody comes to it there who isn't taken
+abbrev noneWaits : ℕ → ℕ → Facts → Bool
+noneWaits s last f = f .taken || not (eqb last waitingForPrediction && f .soon)
+
+pub soon-left : (s : ℕ) → s ≤ 6 → (f : Facts) → noneWaits s (lastOf s (course f s)) f ≡ true
+unfolding every passed next lastOf
+soon-left = of-each noneWaits refl
+
 -- states of the model stay states of the model, and no state stays none
 abbrev stillOne : ℕ → ℕ → Facts → Bool
 stillOne s last f = cond (eqb s 0) (eqb last 0) (leb 1 last && leb last 6)
