@@ -1,6 +1,6 @@
 -- The runs give what they are there to show.
 use mathlib.Core.Path.{_≡_, refl}
-use mathlib.Core.List.{map}
+use mathlib.Core.List.{map, _++_}
 use Rattle.lists.specs.Lists.{every, any, howMany, whereIs, without, fill, sameList}
 use Rattle.records.specs.Names.{isName, inBytes, sameName}
 use Rattle.records.specs.Maps.{isMap, inMap}
@@ -26,7 +26,7 @@ use Rattle.prediction.specs.State.{firstPrediction}
 use Rattle.prediction.specs.Sound.{isReady}
 use Rattle.prediction.specs.Outcome as outcome
 use Rattle.prediction.specs.Outcome.{groundsOf, answerIn, allAlong, allTold, written, ownFacts, allFacts, belowIn, stateAfter, reportsIn}
-use Rattle.prediction.specs.Cases.{Line, Result, smooth, after, resultOf, scenarios}
+use Rattle.prediction.specs.Cases.{Line, Result, smooth, after, resultOf, scenarios, conditions}
 
 abbrev saidOf : Line → Result
 saidOf l = l .said
@@ -34,7 +34,7 @@ saidOf l = l .said
 abbrev givenOf : Line → Result
 givenOf l = resultOf (l .asked)
 
-pub all-scenarios : map givenOf scenarios ≡ map saidOf scenarios
+pub all-cases : map givenOf (scenarios ++ conditions) ≡ map saidOf (scenarios ++ conditions)
 unfolding every any howMany whereIs without fill sameList isName inBytes sameName isMap inMap
     portOf recordOf narrow nameStands tieStands howManyExpected spotTaken someOpen see lower lowest row.enact placed unknownPod foundOrNew
     takesUnknownPod canProceed canCancel cancelAt cancelPort failed elsewhere matching displaced base.rowOf
@@ -43,4 +43,4 @@ unfolding every any howMany whereIs without fill sameList isName inBytes sameNam
     carrierOf mayLeave only untilZero rowOf queue.answersIn queue.answerIn queue.stateAfter queue.goesIn queue.madeIn
     next passed lastOf isSoon isLate firstPrediction isReady groundsOf answerIn outcome.told allAlong allTold written ownFacts allFacts
     belowIn stateAfter reportsIn smooth after resultOf
-all-scenarios = refl
+all-cases = refl

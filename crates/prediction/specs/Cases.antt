@@ -3,12 +3,12 @@ use Prim.Native.Nat.{ℕ, _+_}
 use mathlib.Core.Bool.{Bool, true, _&&_}
 use mathlib.Core.List.{List, [], _∷_, _++_, map}
 use lib.Dec.{eqb}
-use Rattle.records.specs.Names.{inBytes}
 use Rattle.rules.specs.declared.report.Report.{Report}
 use Rattle.rules.specs.Seen.{Input, inputOf}
-use Rattle.rules.specs.Run.{onPort}
-use Rattle.rules.specs.Inputs.{CarrierNotification, CancelCarrierNotification, CancelCarrier, LoadStart, LoadDone, IdReadFailed}
-use Rattle.rules.specs.Inputs.{AccessStart, AccessEnd, Close, UnloadStart, UnloadDone, UnloadFail, A, B, arrived, stored, agreed, accessed}
+use Rattle.rules.specs.Run.{onPort, onName}
+use Rattle.rules.specs.Inputs.{Bind, CarrierNotification, CancelCarrierNotification, ProceedWithCarrier, CancelCarrier, LoadStart, LoadDone}
+use Rattle.rules.specs.Inputs.{IdRead, Open, SlotMap, AccessStart, AccessEnd, Close, UnloadStart, UnloadFail}
+use Rattle.rules.specs.Inputs.{A, B, A17, threes, unannounced, stored, agreed, accessed}
 use Rattle.prediction.specs.State.{Predicted, Timed, start}
 use Rattle.prediction.specs.Outcome.{answerIn, stateAfter, reportsIn}
 
@@ -35,6 +35,7 @@ nine seconds = 32400 + seconds
 
 -- ── A run of inputs that are accepted, and one more: its answer and its reports ──
 pub record Case : Type 0 where
+  pub ports : ℕ
   pub places : ℕ
   pub setting : ℕ
   pub timeout : ℕ
@@ -61,31 +62,38 @@ after s (i ∷ is) = after (stateAfter s i) is
 abbrev pub resultIn : Bool → Predicted → Timed → Result
 resultIn smooth s i = record { smooth = smooth; answer = answerIn s i; reports = reportsIn s i }
 
--- one port
 unfoldable pub resultOf : Case → Result
 resultOf c =
-    let s = start 1 (c .places) (c .setting) (c .timeout) in
+    let s = start (c .ports) (c .places) (c .setting) (c .timeout) in
     resultIn (smooth s (c .before)) (after s (c .before)) (c .input)
 
-abbrev line : ℕ → ℕ → ℕ → List Timed → Timed → ℕ → List Report → Line
-line places setting timeout before input answer reports = record {
-  asked = record { places = places; setting = setting; timeout = timeout; before = before; input = input };
+abbrev line : ℕ → ℕ → ℕ → ℕ → List Timed → Timed → ℕ → List Report → Line
+line ports places setting timeout before input answer reports = record {
+  asked = record { ports = ports; places = places; setting = setting; timeout = timeout; before = before; input = input };
   said = record { smooth = true; answer = answer; reports = reports };
 }
 
--- a fixed buffer tool, a minute before and two minutes after
+-- a fixed buffer tool of one port, a minute before and two minutes after
 abbrev told : List Timed → Timed → List Report → Line
-told before input reports = line 0 60 120 before input 0 reports
+told before input reports = line 1 0 60 120 before input 0 reports
 
 abbrev refused : List Timed → Timed → ℕ → Line
-refused before input answer = line 0 60 120 before input answer []
+refused before input answer = line 1 0 60 120 before input answer []
 
--- reports of A: model 8, and its other models
+-- one that makes no predictions, and one that aborts none
+abbrev unset : List Timed → Timed → List Report → Line
+unset before input reports = line 1 0 0 120 before input 0 reports
+
+abbrev patient : List Timed → Timed → List Report → Line
+patient before input reports = line 1 0 60 0 before input 0 reports
+
+-- a tool with a buffer
+abbrev buffered : List Timed → Timed → ℕ → List Report → Line
+buffered before input answer reports = line 1 1 60 120 before input answer reports
+
+-- a report of A, of model 8
 abbrev eight : ℕ → ℕ → Report
-eight old new = record { model = 8; port = 0; name = inBytes A; old = old; new = new }
-
-abbrev of : ℕ → ℕ → ℕ → Report
-of model old new = record { model = model; port = 0; name = inBytes A; old = old; new = new }
+eight old new = onName 8 A old new
 
 -- A is IN ACCESS at port 1, and so WAITING FOR PREDICTION
 abbrev inAccess : List Timed
@@ -120,7 +128,85 @@ scenarios =
     -- R3-4.1.5: and after
     ∷ told (notified ++ Clock (nine 300) ∷ []) (Estimate (nine 315) A (nine 600)) (eight 4 5 ∷ [])
     -- R3-4.1.6 and R3-4.1.7: Tp in the past, within the timeout and beyond it
-    ∷ told (inAccess ++ Clock (nine 0) ∷ []) (PredictedTime (nine 0) A (32400 + 0)) (eight 3 4 ∷ [])
+    ∷ told (inAccess ++ Clock (nine 0) ∷ []) (PredictedTime (nine 0) A (nine 0)) (eight 3 4 ∷ [])
     ∷ told inAccess (PredictedTime (nine 60) A (nine 0)) (eight 3 4 ∷ [])
     ∷ told inAccess (PredictedTime (nine 150) A (nine 0)) (eight 3 5 ∷ [])
+    ∷ []
+
+-- ── Runs that differ in one condition each ──
+-- the last second that a clock shows, and one more
+abbrev latest : ℕ
+latest = 4294967295
+
+abbrev tooLate : ℕ
+tooLate = 4294967296
+
+-- A is closed while it still waits for a prediction, and its port is READY TO UNLOAD
+abbrev closed : List Timed
+closed = inAccess ++ ended ++ plain (Close A) ∷ []
+
+-- B is IN ACCESS at port 2, too, and both have the same Tp
+abbrev second : List Input
+second = Bind 2 B ∷ LoadStart 2 ∷ LoadDone 2 ∷ IdRead 2 B ∷ Open B ∷ SlotMap B threes ∷ ProceedWithCarrier B 2 ∷ AccessStart B ∷ []
+
+abbrev both : List Timed
+both = inAccess ++ map plain second ++ PredictedTime 0 B 100 ∷ PredictedTime 0 A 100 ∷ []
+
+-- in a tool with a buffer a carrier is opened at its place
+abbrev inside : List Timed
+inside = map plain (stored A 1 ++ Open A ∷ SlotMap A threes ∷ ProceedWithCarrier A 0 ∷ [])
+
+abbrev pub conditions : List Line
+conditions =
+    -- a record is made, and goes; a tool with a buffer has no model 8
+    told [] (plain (CarrierNotification A)) (onName 5 A 0 1 ∷ onName 6 A 0 1 ∷ onName 7 A 0 1 ∷ eight 0 2 ∷ [])
+    ∷ told (plain (CarrierNotification A) ∷ []) (plain (CancelCarrierNotification A))
+    (onName 5 A 1 0 ∷ onName 6 A 1 0 ∷ onName 7 A 1 0 ∷ eight 2 0 ∷ [])
+    ∷ buffered [] (plain (CarrierNotification A)) 0 (onName 5 A 0 1 ∷ onName 6 A 0 1 ∷ onName 7 A 0 1 ∷ [])
+    -- 23 and 26: it comes into access, or is cancelled; the setting is 0
+    ∷ told (map plain agreed) (plain (AccessStart A)) (onName 7 A 1 2 ∷ eight 2 3 ∷ [])
+    ∷ unset (map plain agreed) (plain (AccessStart A)) (onName 7 A 1 2 ∷ eight 2 1 ∷ [])
+    ∷ buffered inside (plain (AccessStart A)) 0 (onName 7 A 1 2 ∷ [])
+    ∷ told (map plain unannounced) (plain (CancelCarrier A 1))
+    (onPort 1 1 3 2 ∷ onName 5 A 2 4 ∷ eight 2 3 ∷ eight 3 4 ∷ eight 4 6 ∷ [])
+    ∷ unset (map plain unannounced) (plain (CancelCarrier A 1)) (onPort 1 1 3 2 ∷ onName 5 A 2 4 ∷ eight 2 1 ∷ [])
+    -- 25 and 29: ready already, or ready after all
+    ∷ told closed (PredictedTime 0 A 60) (eight 3 4 ∷ eight 4 6 ∷ [])
+    ∷ told closed (PredictedTime 0 A 61) []
+    ∷ told closed (NoPrediction 0 A) (eight 3 5 ∷ eight 5 6 ∷ [])
+    ∷ told (closed ++ plain (UnloadStart 1) ∷ []) (PredictedTime 0 A 60) (eight 3 4 ∷ [])
+    ∷ told (closed ++ plain (UnloadStart 1) ∷ PredictedTime 0 A 60 ∷ []) (plain (UnloadFail 1)) (onPort 1 1 3 2 ∷ eight 4 6 ∷ [])
+    -- 27: no prediction, with a Tp or without
+    ∷ told inAccess (NoPrediction 0 A) (eight 3 5 ∷ [])
+    ∷ told calculated (NoPrediction (nine 0) A) (eight 3 5 ∷ [])
+    -- a timeout of 0 aborts nobody; an estimate that was given stays; sums don't wrap
+    ∷ patient notified (Clock (nine 4000)) []
+    ∷ told (notified ++ Estimate (nine 240) A (nine 419) ∷ []) (Clock (nine 4000)) []
+    ∷ told inAccess (PredictedTime latest A latest) (eight 3 4 ∷ [])
+    -- an estimate changes nothing where nothing is judged
+    ∷ told (notified ++ ended ++ plain (Close A) ∷ []) (Estimate (nine 300) A (nine 600)) []
+    -- all are judged, in record order
+    ∷ line 2 0 60 120 both (Clock 40) 0 (eight 3 4 ∷ onName 8 B 3 4 ∷ [])
+    -- a time, a name, a record, a fixed buffer tool
+    ∷ told [] (Clock latest) []
+    ∷ refused [] (Clock tooLate) 1
+    ∷ refused inAccess (PredictedTime tooLate A 0) 1
+    ∷ refused inAccess (PredictedTime 0 A tooLate) 1
+    ∷ refused inAccess (PredictedTime 0 A17 0) 1
+    ∷ refused inAccess (PredictedTime 0 B 0) 2
+    ∷ refused [] (Estimate 0 A tooLate) 1
+    ∷ buffered [] (Estimate 0 A 0) 2 []
+    ∷ buffered (inside ++ plain (AccessStart A) ∷ []) (PredictedTime 0 A 0) 5 []
+    -- WAITING FOR PREDICTION, and no Tp so far; a Tp
+    ∷ refused (map plain agreed) (PredictedTime 0 A 0) 5
+    ∷ refused calculated (PredictedTime (nine 0) A (nine 300)) 5
+    ∷ refused inAccess (Estimate 0 A 0) 5
+    ∷ refused notified (NoPrediction (nine 240) A) 5
+    -- a clock that runs back; the same is none
+    ∷ told (Clock (nine 1) ∷ []) (Clock (nine 1)) []
+    ∷ refused (Clock (nine 1) ∷ []) (Clock (nine 0)) 11
+    ∷ refused (inAccess ++ Clock (nine 1) ∷ []) (PredictedTime (nine 0) A (nine 300)) 11
+    ∷ refused notified (Estimate (nine 239) A (nine 300)) 11
+    ∷ refused (inAccess ++ Clock (nine 1) ∷ []) (NoPrediction (nine 0) A) 11
+    ∷ refused notified (NoPrediction (nine 239) A) 5
     ∷ []
