@@ -1,4 +1,5 @@
 pub mod Cases
+pub mod Clocks
 pub mod Projected
 pub mod Promised
 pub mod Modelled
