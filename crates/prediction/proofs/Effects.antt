@@ -1,5 +1,5 @@
 -- An accepted input changes document 01's part of the state by one effect, and whoever is placed stays placed.
-use Prim.Native.Nat.{ℕ, _<_, _≤_}
+use Prim.Native.Nat.{ℕ, _<_}
 use native.Mathlib.Omega.{arith}
 use mathlib.Core.Path.{_≡_, refl, ap, sym, subst, _∙_}
 use mathlib.Core.Bool.{Bool, true, false, cond, _&&_}
@@ -7,7 +7,7 @@ use mathlib.Core.List.{List, [], _∷_}
 use lib.ListN.{length, getD}
 use lib.Seq.{set-out}
 use lib.Dec.{eqb}
-use borrow.Author.Tests.{eqb-true, eq-eqb}
+use borrow.Author.Tests.{eq-eqb}
 use Rattle.lists.specs.Lists.{any}
 use Rattle.lists.proofs.Bools.{clash}
 use Rattle.lists.proofs.Tables.{without-out}
@@ -24,7 +24,7 @@ use Rattle.rules.proofs.Accepts.{clear}
 use Rattle.rules.specs.Rows as base-rows
 use Rattle.rules.specs.Inputs.{ReserveAtPort}
 use Rattle.rules.proofs.Apt.{Apt, apt}
-use Rattle.rules.proofs.SoundParts.{Facts, facts}
+use Rattle.rules.proofs.SoundParts.{facts}
 use Rattle.rules.proofs.SoundFacts.{few-ports}
 use Rattle.rules.proofs.SoundRuns.{rows-keep}
 use Rattle.maps.specs.State.{Mapped}

@@ -1,19 +1,17 @@
 -- A prediction that moves along fits its carrier afterwards.
 use Prim.Native.Nat.{ℕ, _≤_}
 use native.Mathlib.Omega.{arith}
-use mathlib.Core.Path.{_≡_, refl, ap, sym, _∙_}
+use mathlib.Core.Path.{_≡_, refl}
 use mathlib.Core.Bool.{Bool, true, false, not, cond, _&&_, _||_}
-use mathlib.Core.List.{List, []}
 use lib.Dec.{eqb, leb}
-use borrow.Author.Tests.{eqb-true, leb-true, le-leb}
+use borrow.Author.Tests.{eqb-true, leb-true}
 use Rattle.lists.specs.Lists.{between}
-use Rattle.lists.proofs.Bools.{clash, and-l, and-r, and-i, or-l, or-r, or-other, not-true}
+use Rattle.lists.proofs.Bools.{and-l, and-r, and-i, or-r, or-other}
 use Rattle.records.specs.declared.carrier.Carrier.{Carrier}
 use Rattle.records.specs.Carriers.{atPort}
 use Rattle.rules.specs.State.{State}
 use Rattle.prediction.specs.declared.prediction.Prediction.{Prediction}
 use Rattle.prediction.specs.Model.{Facts, course, lastOf, waitingForCarrier, predicted, aborted, passed, next}
-use Rattle.prediction.specs.Predictions.{noPrediction}
 use Rattle.prediction.specs.Sound.{inRange, isReady, leftAtPort, notOverdue, fits, isNone}
 use Rattle.prediction.specs.Outcome.{along}
 use Rattle.prediction.proofs.Modelled.{ready-ends, stays-one, left-by-taken}

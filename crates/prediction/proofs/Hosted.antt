@@ -1,28 +1,32 @@
 -- What a host may count on: every report of model 8 is a transition, or of a record made or gone.
-use Prim.Native.Nat.{ℕ, _≤_, _<_}
+use Prim.Native.Nat.{ℕ, _≤_}
 use native.Mathlib.Omega.{arith}
-use mathlib.Core.Path.{_≡_, refl, ap, sym, subst, _∙_}
-use mathlib.Core.Bool.{Bool, true, false, not, cond, _&&_, _||_}
+use mathlib.Core.Path.{_≡_, refl, sym, subst}
+use mathlib.Core.Bool.{Bool, true, false, cond, _&&_, _||_}
 use mathlib.Core.List.{List, [], _∷_, _++_}
 use lib.ListN.{getD}
-use lib.Dec.{eqb, leb, ltb}
-use borrow.Author.Tests.{eqb-true, eq-eqb, ltb-false}
+use lib.Dec.{eqb, leb}
+use borrow.Author.Tests.{eqb-true, eq-eqb, leb-true}
 use Rattle.lists.specs.Lists.{any, every}
-use Rattle.lists.proofs.Bools.{clash, and-l, and-r, and-i, or-l, or-r}
+use Rattle.lists.proofs.Bools.{and-l, and-r, and-i, or-l, or-r}
 use Rattle.records.specs.declared.name.Name.{Name}
 use Rattle.records.specs.declared.carrier.Carrier.{Carrier}
 use Rattle.rules.specs.declared.report.Report.{Report}
 use Rattle.rules.specs.State.{State, recordOf}
 use Rattle.rules.specs.Seen.{see}
 use Rattle.prediction.specs.declared.prediction.Prediction.{Prediction}
-use Rattle.prediction.specs.Model.{Facts, Transition, transitions, course, lastOf, waitingForCarrier, waitingForPrediction}
-use Rattle.prediction.specs.Predictions.{noPrediction, withTp, withTe, hasTp, Times, isSoon, onJudging}
+use Rattle.prediction.specs.Model.{Facts, Transition, transitions, course, waitingForCarrier}
+use Rattle.prediction.specs.Predictions.{noPrediction, Times, isSoon, onJudging}
 use Rattle.prediction.specs.State.{Predicted, baseOf, Timed, isFixed}
-use Rattle.prediction.specs.Sound.{isReady}
+use Rattle.prediction.specs.Sound.{inRange, isReady, isNone, sound}
 use Rattle.prediction.specs.Outcome as outcome
-use Rattle.prediction.specs.Outcome.{isTimed, along, told, allTold, cancels, written}
+use Rattle.prediction.specs.Outcome.{isTimed, answerIn, along, told, allTold}
 use Rattle.prediction.specs.Host.{isStep, isMade, isGone, inModel, notForgotten}
 use Rattle.prediction.proofs.Modelled.{leads, stepsLead, course-leads, soon-left}
+use Rattle.prediction.proofs.Written.{same-state}
+use Rattle.prediction.proofs.Pairs.{Pairs, none, more, pairs-along}
+use Rattle.prediction.proofs.SoundRuns.{Near}
+use Rattle.prediction.proofs.Sounds.{second-near}
 
 -- ── Reports ──
 -- what leads by the table is a step of it
@@ -86,21 +90,6 @@ module _ (s : Predicted) (i : Timed) where
   fresh-model true n = refl
   fresh-model false n = refl
 
-  -- what is written leaves the state
-  same-state : (n : ℕ) (t : Times) (x : ℕ) (p : Prediction) → written n t x p .state ≡ p .state
-  unfolding written
-  same-state n t x p = go (eqb n 6) (eqb n 32) (eqb n 33)
-    where
-      cancelled : (w : Bool) → cond w (withTp (t .now) p) p .state ≡ p .state
-      cancelled true = refl
-      cancelled false = refl
-
-      go : (u v w : Bool) → cond u (cancels t p) (cond v (withTp x p) (cond w (withTe x p) p)) .state ≡ p .state
-      go true v w = cancelled (eqb (p .state) waitingForCarrier && not (eqb (t .setting) 0))
-      go false true w = refl
-      go false false true = refl
-      go false false false = refl
-
   own-model : (n : Name) (f : Facts) (old o : ℕ) → o ≡ old → every inModel (told n old (course f o)) ≡ true
   own-model n f old o e = rw e (told-steps n f old (course f old) (course-leads f old))
 
@@ -128,18 +117,38 @@ unfolding outcome.allFacts
 all-judged n u st c p t = rw t
 
 -- after one of 31 to 34 that is accepted
-module _ (s : Predicted) (i : Timed) (t : isTimed (i .input .number) ≡ true) where
-  abbrev judging : Carrier → Prediction → Facts
-  judging c p = onJudging (outcome.timesThen s i) p (isReady (outcome.after s i) c)
+module _ (s : Predicted) (i : Timed) (t : isTimed (i .input .number) ≡ true) (h : sound s ≡ true) (a : answerIn s i ≡ 0) where
+  abbrev then : State
+  then = outcome.after s i
 
-  judged-moves : (c : Carrier) (p : Prediction) → p .state ≤ 6
-      → notForgotten (outcome.timesThen s i) (along (judging c p) p .prediction) ≡ true
+  abbrev times : Times
+  times = outcome.timesThen s i
+
+  near-few : (b : Bool) (c : Carrier) (p : Prediction) → Near b c p → p .state ≤ 6
+  unfolding inRange isNone
+  near-few true c p n = leb-true _ 6 (and-r (leb 1 (p .state)) _ (and-l _ _ (and-l _ _ (n .near refl .range))))
+  near-few false c p n =
+      let z = eqb-true (p .state) 0 (and-l _ _ (and-l _ _ (and-l _ _ (and-l _ _ (n .none refl))))) in
+      omega arith
+
+  judged-moves : (c : Carrier) (p : Prediction) → p .state ≤ 6 → notForgotten times (along (onJudging times p (isReady then c)) p .prediction) ≡ true
   unfolding notForgotten isSoon
-  judged-moves c p l = soon-left (p .state) l (judging c p)
+  judged-moves c p l = soon-left (p .state) l (onJudging times p (isReady then c))
 
-  pub none-forgotten : (c : Carrier) (p : Prediction) → p .state ≤ 6
-      → notForgotten (outcome.timesThen s i) (along (outcome.allFacts (i .input .number) (outcome.timesThen s i) (outcome.after s i) c p) p .prediction)
-      ≡ true
-  none-forgotten c p l =
-      subst (λ f. notForgotten (outcome.timesThen s i) (along f p .prediction) ≡ true)
-      (sym (all-judged (i .input .number) (outcome.timesThen s i) (outcome.after s i) c p t)) (judged-moves c p l)
+  all-moves : (c : Carrier) (p : Prediction) → Near (isFixed then) c p
+      → notForgotten times (along (outcome.allFacts (i .input .number) times then c p) p .prediction) ≡ true
+  all-moves c p n =
+      subst (λ f. notForgotten times (along f p .prediction) ≡ true) (sym (all-judged (i .input .number) times then c p t))
+      (judged-moves c p (near-few (isFixed then) c p n))
+
+  each-moved : {cs : List Carrier} {ps : List Prediction} → Pairs (λ _ p. notForgotten times p ≡ true) cs ps → every (notForgotten times) ps ≡ true
+  unfolding every
+  each-moved none = refl
+  each-moved (more q r) = and-i q (each-moved r)
+
+  -- nobody is left WAITING FOR PREDICTION whose Tp is within the setting time
+  pub none-forgotten : every (notForgotten (outcome.stateAfter s i .times)) (outcome.stateAfter s i .predictions) ≡ true
+  unfolding outcome.stateAfter
+  none-forgotten =
+      rw (eq-eqb (answerIn s i) 0 a)
+      (each-moved (pairs-along (outcome.allFacts (i .input .number) times then) all-moves (second-near s i h a)))

@@ -11,3 +11,4 @@ pub mod Placed
 pub mod Written
 pub mod Sounds
 pub mod Hosted
+pub mod Completed

@@ -6,7 +6,7 @@ use mathlib.Core.Bool.{Bool, true, false, not, cond, _&&_, _||_}
 use mathlib.Core.List.{List, [], _∷_}
 use lib.ListN.{getD}
 use lib.Dec.{eqb, leb}
-use borrow.Author.Tests.{eqb-true, eqb-false, eq-eqb}
+use borrow.Author.Tests.{eq-eqb}
 use Rattle.lists.specs.Lists.{any, every}
 use Rattle.lists.proofs.Tests.{every-at}
 use Rattle.lists.proofs.Bools.{clash, and-l, and-r, and-i, or-l, or-r}

@@ -1,9 +1,8 @@
 -- A carrier and its prediction, one pair after the other.
 use Prim.Native.Nat.{ℕ, zero, suc, _<_}
-use native.Mathlib.Nat.{le-of-suc-le-suc}
 use native.Mathlib.Omega.{arith}
-use mathlib.Core.Path.{_≡_, refl, ap, sym, _∙_}
-use mathlib.Core.Bool.{Bool, true, false, cond, _&&_}
+use mathlib.Core.Path.{_≡_, refl, ap}
+use mathlib.Core.Bool.{Bool, true, false, cond}
 use mathlib.Core.List.{List, [], _∷_, _++_}
 use lib.ListN.{length, getD, set}
 use Rattle.lists.specs.Lists.{without, withNew}
@@ -73,6 +72,14 @@ module _ {Q : Carrier → Prediction → Type 0} where
   pairs-put k p none f = none
   pairs-put zero p (more q r) f = more (f (omega arith)) r
   pairs-put (suc k) p (more q r) f = more q (pairs-put k p r (λ b. f (omega arith)))
+
+  -- each by its place
+  pub pairs-all : (cs : List Carrier) (ps : List Prediction) → length ps ≡ length cs
+      → ((k : ℕ) → k < length cs → Q (getD cs k noCarrier) (getD ps k noPrediction)) → Pairs Q cs ps
+  pairs-all [] [] e f = none
+  pairs-all [] (p ∷ ps) e f = absurd (omega (arith, e))
+  pairs-all (c ∷ cs) [] e f = absurd (omega (arith, e))
+  pairs-all (c ∷ cs) (p ∷ ps) e f = more (f 0 (omega arith)) (pairs-all cs ps (omega (arith, e)) (λ k b. f (suc k) (omega arith)))
 
   -- one of them
   pub pairs-at : {cs : List Carrier} {ps : List Prediction} → Pairs Q cs ps → (k : ℕ) → k < length cs

@@ -2,15 +2,14 @@
 use Prim.Native.Nat.{ℕ, _<_}
 use native.Mathlib.Omega.{arith}
 use mathlib.Core.Path.{_≡_, refl, ap, sym, subst, _∙_}
-use mathlib.Core.Logic.{_≢_}
-use mathlib.Core.Bool.{Bool, true, false, not, cond, _&&_}
+use mathlib.Core.Bool.{Bool, true, false, cond}
 use mathlib.Core.List.{List, [], _∷_, _++_}
-use lib.ListN.{length, getD, set, length-set, length-append}
+use lib.ListN.{length, getD, set, length-append}
 use lib.Seq.{getD-set-same}
-use lib.Dec.{eqb, ltb}
-use borrow.Author.Tests.{eqb-true, ltb-true, ltb-false, ne-eqb}
-use Rattle.lists.specs.Lists.{whereIs, without, withNew}
-use Rattle.lists.proofs.Bools.{clash, and-l, and-r, not-true, not-false}
+use lib.Dec.{eqb}
+use borrow.Author.Tests.{eqb-true, ltb-true}
+use Rattle.lists.specs.Lists.{without}
+use Rattle.lists.proofs.Bools.{and-l, and-r, not-true}
 use Rattle.lists.proofs.Tests.{where-holds}
 use Rattle.records.specs.declared.name.Name.{Name}
 use Rattle.records.specs.declared.carrier.Carrier.{Carrier}
@@ -34,10 +33,9 @@ use Rattle.rules.proofs.SoundParts.{Facts}
 use Rattle.maps.specs.State.{Mapped}
 use Rattle.maps.specs.Sound as maps-sound
 use Rattle.maps.specs.Rows as maps-rows
-use Rattle.maps.specs.Rows.{codesIn}
 use Rattle.maps.specs.Outcome as maps
 use Rattle.maps.proofs.SoundRuns as maps-proofs
-use Rattle.maps.proofs.Amended.{effect-is, accepted-there}
+use Rattle.maps.proofs.Amended.{accepted-there}
 use Rattle.queue.specs.Requests.{carrierOf}
 use Rattle.queue.proofs.After.{found-again, stands-after}
 use Rattle.queue.proofs.Below.{base-facts, state-below, apt-below}

@@ -1,10 +1,8 @@
 -- Cut down, a run is a run of P5's layer that reaches the same state below.
-use Prim.Native.Nat.{ℕ}
 use mathlib.Core.Path.{_≡_, refl, ap, sym, _∙_}
 use mathlib.Core.Bool.{Bool, true, false, cond}
 use mathlib.Core.List.{List, [], _∷_}
 use lib.Dec.{eqb}
-use Rattle.queue.specs.State as queue-state
 use Rattle.queue.specs.State.{Queued}
 use Rattle.queue.specs.Outcome as queue
 use Rattle.queue.specs.Projection as queue-runs

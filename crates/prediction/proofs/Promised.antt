@@ -2,15 +2,14 @@
 use Prim.Native.Nat.{ℕ, _+_, _≤_}
 use native.Mathlib.Omega.{arith}
 use mathlib.Core.Path.{_≡_, refl, ap, sym, subst, _∙_}
-use mathlib.Core.Bool.{Bool, true, false, cond, _&&_}
+use mathlib.Core.Bool.{Bool, true, false, cond}
 use mathlib.Core.List.{List, [], _∷_}
 use lib.ListN.{length}
-use lib.Dec.{eqb, leb}
+use lib.Dec.{eqb}
 use borrow.Author.Tests.{leb-true, ne-eqb}
-use Rattle.lists.proofs.Bools.{clash, and-l, and-r}
+use Rattle.lists.proofs.Bools.{clash, and-l}
 use Rattle.records.specs.declared.name.Name.{Name}
-use Rattle.records.specs.declared.carrier.Carrier.{Carrier}
-use Rattle.rules.specs.State.{State, recordOf}
+use Rattle.rules.specs.State.{recordOf}
 use Rattle.rules.specs.Seen.{Input}
 use Rattle.rules.specs.History.{Event, isLive, history}
 use Rattle.rules.specs.Promise.{Live, Orderly}
@@ -24,7 +23,7 @@ use Rattle.queue.specs.Promise as queue-promise
 use Rattle.queue.proofs.Same.{Silent, silent-number, Same, alone, both, here, same-earned}
 use Rattle.queue.proofs.Promised as queue-promised
 use Rattle.prediction.specs.State.{Predicted, baseOf, Timed, start}
-use Rattle.prediction.specs.Outcome.{isTimed, answerIn, stateAfter, reached}
+use Rattle.prediction.specs.Outcome.{isTimed, answerIn, reached}
 use Rattle.prediction.specs.Projection.{cutDown}
 use Rattle.prediction.specs.Promise.{events, Promise}
 use Rattle.prediction.proofs.Projected.{timed-leaves, plain-answers, below}

@@ -1,14 +1,13 @@
 -- Every input keeps a sound state sound.
-use Prim.Native.Nat.{ℕ, _<_, _≤_}
+use Prim.Native.Nat.{ℕ, _<_}
 use native.Mathlib.Omega.{arith}
-use mathlib.Core.Path.{_≡_, refl, ap, sym, subst, _∙_}
-use mathlib.Core.Bool.{Bool, true, false, not, cond, _&&_, _||_}
-use mathlib.Core.List.{List, [], _∷_}
-use lib.ListN.{length, getD, set}
-use lib.Dec.{eqb, leb, ltb}
-use borrow.Author.Tests.{eqb-true, eqb-false, eq-eqb, leb-true}
-use Rattle.lists.specs.Lists.{between, without, withNew}
-use Rattle.lists.proofs.Bools.{clash, and-l, and-r, and-i, or-l, or-r, or-other, not-true}
+use mathlib.Core.Path.{_≡_, refl, _∙_}
+use mathlib.Core.Bool.{Bool, true, false, not, cond, _||_}
+use mathlib.Core.List.{List}
+use lib.ListN.{length, getD}
+use lib.Dec.{eqb}
+use borrow.Author.Tests.{eqb-true, eqb-false}
+use Rattle.lists.proofs.Bools.{clash, and-l, and-r, not-true}
 use Rattle.records.specs.declared.carrier.Carrier.{Carrier}
 use Rattle.records.specs.Carriers.{noCarrier, expected, atPort}
 use Rattle.rules.specs.declared.row.Effect.{Effect}
@@ -20,7 +19,7 @@ use Rattle.prediction.specs.declared.prediction.Prediction.{Prediction}
 use Rattle.prediction.specs.Model.{waitingForCarrier}
 use Rattle.prediction.specs.Predictions.{noPrediction, newPrediction}
 use Rattle.prediction.specs.State.{isFixed, firstPrediction}
-use Rattle.prediction.specs.Sound.{isTime, inRange, isReady, leftAtPort, notOverdue, fits, isNone}
+use Rattle.prediction.specs.Sound.{inRange, leftAtPort, fits, isNone}
 use Rattle.prediction.proofs.Fitting.{Nearly}
 use Rattle.prediction.proofs.Pairs.{Pairs, Fit, pairs-without, pairs-new, pairs-set, pairs-use}
 use Rattle.prediction.proofs.Effects.{Changes}

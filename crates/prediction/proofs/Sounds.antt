@@ -1,19 +1,19 @@
 -- Every input keeps a sound state sound, and so is every state that a run reaches.
-use Prim.Native.Nat.{ℕ, _<_, _≤_}
+use Prim.Native.Nat.{ℕ, _<_}
 use native.Mathlib.Omega.{arith}
 use mathlib.Core.Path.{_≡_, refl, ap, sym, subst, _∙_}
-use mathlib.Core.Bool.{Bool, true, false, not, cond, _&&_, _||_}
+use mathlib.Core.Bool.{Bool, true, false, cond, _&&_, _||_}
 use mathlib.Core.List.{List, [], _∷_}
-use lib.ListN.{length, getD, set}
-use lib.Dec.{eqb, leb, ltb}
+use lib.ListN.{length, getD}
+use lib.Dec.{eqb}
 use borrow.Author.Tests.{eqb-true, eq-eqb}
-use Rattle.lists.proofs.Bools.{clash, and-l, and-r, and-i, or-other}
+use Rattle.lists.proofs.Bools.{clash, and-l, and-r, and-i}
 use Rattle.lists.proofs.Tables.{without-out}
 use Rattle.records.specs.declared.carrier.Carrier.{Carrier}
 use Rattle.records.specs.Names.{inBytes}
-use Rattle.records.specs.Carriers.{noCarrier, atPort, expected}
+use Rattle.records.specs.Carriers.{atPort, expected}
 use Rattle.rules.specs.State.{State, recordOf}
-use Rattle.rules.specs.Seen.{Input, nameStands, see}
+use Rattle.rules.specs.Seen.{see}
 use Rattle.rules.specs.Row as row
 use Rattle.rules.specs.declared.row.Seen.{Seen}
 use Rattle.rules.specs.Row.{Ground, unless, lowest}
@@ -33,9 +33,9 @@ use Rattle.queue.proofs.Below.{base-facts}
 use Rattle.queue.proofs.SoundRuns as queue-runs
 use Rattle.prediction.specs.declared.prediction.Prediction.{Prediction}
 use Rattle.prediction.specs.Model.{Facts}
-use Rattle.prediction.specs.Predictions.{noPrediction, Times}
+use Rattle.prediction.specs.Predictions.{noPrediction}
 use Rattle.prediction.specs.State.{Predicted, baseOf, Timed, isFixed, firstPrediction}
-use Rattle.prediction.specs.Sound.{isTime, isSpan, timesInRange, isReady, eachFits, sound}
+use Rattle.prediction.specs.Sound.{isTime, isSpan, timesInRange, isReady, sound}
 use Rattle.prediction.specs.Outcome as outcome
 use Rattle.prediction.specs.Outcome.{isTimed, answerIn, allFacts, Below, belowIn, groundsOf, clockGrounds, tpGrounds, teGrounds, noneGrounds}
 use Rattle.prediction.proofs.Pairs.{Pairs, Fit, as-long, pairs-of, pairs-fit, pairs-put, pairs-at, pairs-use, pairs-along}
@@ -49,27 +49,38 @@ same-fixed : (s t : State) (g : ℕ) (m : Bool) → Changes s t g m → isFixed 
 unfolding row.enact
 same-fixed s t g m c = ap isFixed (c .leads)
 
+-- the parts of a sound state
+module _ (s : Predicted) (h : sound s ≡ true) where
+  pub queue-part : queue-sound.sound (s .queued) ≡ true
+  unfolding sound
+  queue-part = and-l _ _ (and-l _ _ h)
+
+  times-part : timesInRange (s .times) ≡ true
+  unfolding sound
+  times-part = and-r (queue-sound.sound (s .queued)) _ (and-l _ _ h)
+
+  pub pairs-part : Pairs (Fit (baseOf s)) (baseOf s .carriers) (s .predictions)
+  unfolding sound
+  pairs-part = pairs-of (baseOf s) _ _ (and-r (queue-sound.sound (s .queued) && timesInRange (s .times)) _ h)
+
 module _ (s : Predicted) (i : Timed) (h : sound s ≡ true) (a : answerIn s i ≡ 0) where
   abbrev number : ℕ
   number = i .input .number
 
-  queue-is : queue-sound.sound (s .queued) ≡ true
-  unfolding sound
-  queue-is = and-l _ _ (and-l _ _ h)
+  abbrev queue-is : queue-sound.sound (s .queued) ≡ true
+  queue-is = queue-part s h
 
-  times-are : timesInRange (s .times) ≡ true
-  unfolding sound
-  times-are = and-r (queue-sound.sound (s .queued)) _ (and-l _ _ h)
+  abbrev times-are : timesInRange (s .times) ≡ true
+  times-are = times-part s h
 
-  pairs-are : Pairs (Fit (baseOf s)) (baseOf s .carriers) (s .predictions)
-  unfolding sound
-  pairs-are = pairs-of (baseOf s) _ _ (and-r (queue-sound.sound (s .queued) && timesInRange (s .times)) _ h)
+  abbrev pairs-are : Pairs (Fit (baseOf s)) (baseOf s .carriers) (s .predictions)
+  pairs-are = pairs-part s h
 
   plain-accepts : isTimed number ≡ false → queue.answerIn (s .queued) (i .input) ≡ 0
   unfolding answerIn
   plain-accepts t = rw t at a
 
-  changes : isTimed number ≡ false → Changes (baseOf s) (queue-state.baseOf (queue.stateAfter (s .queued) (i .input)))
+  pub changes : isTimed number ≡ false → Changes (baseOf s) (queue-state.baseOf (queue.stateAfter (s .queued) (i .input)))
       (queue.goesIn (s .queued .mapped) (queue.rowIn (s .queued) (i .input) .stands))
       (queue.madeIn (s .queued .mapped) (queue.rowIn (s .queued) (i .input) .stands))
   changes t = input-changes (s .queued) (i .input) queue-is (plain-accepts t)
@@ -292,7 +303,7 @@ module _ (s : Predicted) (i : Timed) (h : sound s ≡ true) (a : answerIn s i �
           go true e = clash (fine e .1) f
           go false e = refl
 
-  second-near : Pairs (Near (isFixed then)) (then .carriers) (outcome.second s i)
+  pub second-near : Pairs (Near (isFixed then)) (then .carriers) (outcome.second s i)
   unfolding recordOf
   second-near =
       pairs-put spot (outcome.ownMoved s i .prediction) (subst (λ b. Pairs (Near b) (then .carriers) first) (sym kind-is) (follows .near))

@@ -1,31 +1,23 @@
 -- What the transitions of a carrier ask by what an input does, and what an input writes of its prediction.
-use Prim.Native.Nat.{ℕ, _<_, _≤_}
-use native.Mathlib.Omega.{arith}
-use mathlib.Core.Path.{_≡_, refl, ap, sym, subst, _∙_}
+use Prim.Native.Nat.{ℕ}
+use mathlib.Core.Path.{_≡_, refl}
 use mathlib.Core.Bool.{Bool, true, false, not, cond, _&&_, _||_}
-use mathlib.Core.List.{List, [], _∷_}
-use lib.ListN.{length, getD, set}
-use lib.Dec.{eqb, leb, ltb}
-use borrow.Author.Tests.{eqb-true, eq-eqb}
+use lib.Dec.{eqb}
+use borrow.Author.Tests.{eqb-true}
 use Rattle.lists.specs.Lists.{between}
 use Rattle.lists.proofs.Bools.{clash, and-l, and-r, and-i}
-use Rattle.lists.proofs.Tables.{without-out}
 use Rattle.records.specs.declared.carrier.Carrier.{Carrier}
-use Rattle.records.specs.Carriers.{noCarrier, atPort}
-use Rattle.rules.specs.State.{State, recordOf}
-use Rattle.follow.specs.Follow.{followed}
-use Rattle.queue.specs.Sound as queue-sound
-use Rattle.queue.proofs.Below.{base-facts}
-use Rattle.queue.proofs.SoundRuns as queue-runs
+use Rattle.records.specs.Carriers.{atPort}
+use Rattle.rules.specs.State.{State}
 use Rattle.prediction.specs.declared.prediction.Prediction.{Prediction}
 use Rattle.prediction.specs.Model.{Facts, waitingForCarrier}
-use Rattle.prediction.specs.Predictions.{noPrediction, withTp, withTe, Times, asItIs, onAccess, onCancel, onJudging, onNone}
-use Rattle.prediction.specs.State.{Predicted, baseOf, Timed, isFixed}
-use Rattle.prediction.specs.Sound.{isTime, timeOrNone, timesInRange, inRange, isReady, leftAtPort, fits, isNone, eachFits, sound}
-use Rattle.prediction.specs.Outcome.{isTimed, answerIn, along, cancels, written, ownFacts, allFacts, Below, belowIn}
+use Rattle.prediction.specs.Predictions.{withTp, withTe, Times, asItIs, onAccess, onCancel, onJudging, onNone}
+use Rattle.prediction.specs.State.{isFixed}
+use Rattle.prediction.specs.Sound.{isTime, timeOrNone, inRange, isReady, leftAtPort, fits, isNone}
+use Rattle.prediction.specs.Outcome.{isTimed, along, cancels, written, ownFacts, allFacts}
 use Rattle.prediction.proofs.Fitting.{Nearly, fits-along, none-along}
-use Rattle.prediction.proofs.Pairs.{Pairs, Fit, pairs-of, pairs-fit, pairs-put, pairs-at, pairs-use, pairs-along}
-use Rattle.prediction.proofs.SoundRuns.{Near, fit-near}
+use Rattle.prediction.proofs.Pairs.{Fit}
+use Rattle.prediction.proofs.SoundRuns.{Near}
 
 -- ── What the transitions ask ──
 pub own-ready : (n : ℕ) (t : Times) (p : Prediction) (b : Bool) → ownFacts n t p b .ready ≡ b
@@ -73,6 +65,21 @@ module _ (t : State) (c : Carrier) (p : Prediction) (f : Facts) (r : f .ready �
         go : (b : Bool) → isFixed t ≡ b → cond b (fits t c (along f p .prediction)) (isNone (along f p .prediction)) ≡ true
         go true e = fits-along t c p f (h .near e) r (k e)
         go false e = none-along p f (h .none e)
+
+-- what is written leaves the state
+pub same-state : (n : ℕ) (t : Times) (x : ℕ) (p : Prediction) → written n t x p .state ≡ p .state
+unfolding written
+same-state n t x p = go (eqb n 6) (eqb n 32) (eqb n 33)
+  where
+    cancelled : (w : Bool) → cond w (withTp (t .now) p) p .state ≡ p .state
+    cancelled true = refl
+    cancelled false = refl
+
+    go : (u v w : Bool) → cond u (cancels t p) (cond v (withTp x p) (cond w (withTe x p) p)) .state ≡ p .state
+    go true v w = cancelled (eqb (p .state) waitingForCarrier && not (eqb (t .setting) 0))
+    go false true w = refl
+    go false false true = refl
+    go false false false = refl
 
 -- ── What an input writes stays in range ──
 time-there : (x : ℕ) → isTime x ≡ true → timeOrNone 1 x ≡ true

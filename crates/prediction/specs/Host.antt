@@ -1,9 +1,9 @@
 -- What a host that schedules vehicles may count on.
 use Prim.Native.Nat.{ℕ}
-use mathlib.Core.Bool.{Bool, true, not, _&&_, _||_}
+use mathlib.Core.Bool.{Bool, not, _&&_, _||_}
 use mathlib.Core.List.{List, [], _∷_}
 use lib.Dec.{eqb}
-use Rattle.lists.specs.Lists.{any, every}
+use Rattle.lists.specs.Lists.{any}
 use Rattle.rules.specs.declared.report.Report.{Report}
 use Rattle.prediction.specs.declared.prediction.Prediction.{Prediction}
 use Rattle.prediction.specs.Model.{waitingForCarrier, waitingForPrediction, predicted, aborted, completed, disabled}

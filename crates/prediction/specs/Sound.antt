@@ -1,8 +1,7 @@
 -- Soundness: P5's, and the predictions', in the request's order.
-use Prim.Native.Nat.{ℕ, zero, suc}
+use Prim.Native.Nat.{ℕ, zero}
 use mathlib.Core.Bool.{Bool, true, false, not, cond, _&&_, _||_}
 use mathlib.Core.List.{List, [], _∷_}
-use lib.ListN.{length}
 use lib.Dec.{eqb, leb, ltb}
 use Rattle.lists.specs.Lists.{between}
 use Rattle.records.specs.declared.carrier.Carrier.{Carrier}
