@@ -1,5 +1,6 @@
 -- The runs give what they are there to show.
 use mathlib.Core.Path.{_≡_, refl}
+use mathlib.Core.Bool.{true}
 use mathlib.Core.List.{map, _++_}
 use Rattle.lists.specs.Lists.{every, any, howMany, whereIs, without, fill, sameList}
 use Rattle.records.specs.Names.{isName, inBytes, sameName}
@@ -26,6 +27,7 @@ use Rattle.prediction.specs.State.{firstPrediction}
 use Rattle.prediction.specs.Sound.{isReady}
 use Rattle.prediction.specs.Outcome as outcome
 use Rattle.prediction.specs.Outcome.{groundsOf, answerIn, allAlong, allTold, written, ownFacts, allFacts, belowIn, stateAfter, reportsIn}
+use Rattle.prediction.specs.Reachable.{allowed, shownBy}
 use Rattle.prediction.specs.Cases.{Line, Result, smooth, after, resultOf, scenarios, conditions}
 
 abbrev saidOf : Line → Result
@@ -44,3 +46,8 @@ unfolding every any howMany whereIs without fill sameList isName inBytes sameNam
     next passed lastOf isSoon isLate firstPrediction isReady groundsOf answerIn outcome.told allAlong allTold written ownFacts allFacts
     belowIn stateAfter reportsIn smooth after resultOf
 all-cases = refl
+
+-- every allowed pair of row and answer is given by some run
+pub all-allowed : every (shownBy (scenarios ++ conditions)) allowed ≡ true
+unfolding every any shownBy
+all-allowed = refl

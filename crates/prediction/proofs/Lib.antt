@@ -12,3 +12,4 @@ pub mod Written
 pub mod Sounds
 pub mod Hosted
 pub mod Completed
+pub mod Allowed

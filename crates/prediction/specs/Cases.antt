@@ -195,6 +195,8 @@ conditions =
     ∷ refused inAccess (PredictedTime 0 A17 0) 1
     ∷ refused inAccess (PredictedTime 0 B 0) 2
     ∷ refused [] (Estimate 0 A tooLate) 1
+    ∷ refused [] (NoPrediction tooLate A) 1
+    ∷ refused [] (NoPrediction 0 A) 2
     ∷ buffered [] (Estimate 0 A 0) 2 []
     ∷ buffered (inside ++ plain (AccessStart A) ∷ []) (PredictedTime 0 A 0) 5 []
     -- WAITING FOR PREDICTION, and no Tp so far; a Tp

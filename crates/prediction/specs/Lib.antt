@@ -7,3 +7,4 @@ pub mod Cases
 pub mod Projection
 pub mod Promise
 pub mod Host
+pub mod Reachable
