@@ -49,7 +49,7 @@ passed-leads (suc k) f s = go (eqb (next (transitions f) s) s) refl (passed-lead
     go false e r = and-i (next-leads (transitions f) s e) r
 
 pub course-leads : (f : Facts) (s : ℕ) → stepsLead f s (course f s) ≡ true
-course-leads f s = passed-leads 3 f s
+course-leads f s = passed-leads _ f s
 
 -- ── COMPLETED stays ──
 pub completed-stays : (f : Facts) → course f completed ≡ []

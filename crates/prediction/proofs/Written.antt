@@ -11,7 +11,7 @@ use Rattle.records.specs.Carriers.{atPort}
 use Rattle.rules.specs.State.{State}
 use Rattle.prediction.specs.declared.prediction.Prediction.{Prediction}
 use Rattle.prediction.specs.Model.{Facts, waitingForCarrier}
-use Rattle.prediction.specs.Predictions.{withTp, withTe, Times, asItIs, onAccess, onCancel, onJudging, onNone}
+use Rattle.prediction.specs.Predictions.{withTp, withTe, Times, asItIs, onJudging}
 use Rattle.prediction.specs.State.{isFixed}
 use Rattle.prediction.specs.Sound.{isTime, timeOrNone, inRange, isReady, leftAtPort, fits, isNone}
 use Rattle.prediction.specs.Outcome.{isTimed, along, cancels, written, ownFacts, allFacts}
@@ -20,25 +20,28 @@ use Rattle.prediction.proofs.Pairs.{Fit}
 use Rattle.prediction.proofs.SoundRuns.{Near}
 
 -- ── What the transitions ask ──
+-- one of four
+among : (Q : Facts → Type 0) (a b c d : Facts) → Q a → Q b → Q c → Q d → (u v w : Bool) → Q (cond u a (cond v b (cond w c d)))
+among Q a b c d e f g h true v w = e
+among Q a b c d e f g h false true w = f
+among Q a b c d e f g h false false true = g
+among Q a b c d e f g h false false false = h
+
 pub own-ready : (n : ℕ) (t : Times) (p : Prediction) (b : Bool) → ownFacts n t p b .ready ≡ b
 unfolding ownFacts
-own-ready n t p b = go (eqb n 6) (eqb n 21) (eqb n 34)
-  where
-    go : (u v w : Bool) → cond u (onCancel t p b) (cond v (onAccess t b) (cond w (onNone b) (asItIs b))) .ready ≡ b
-    go true v w = refl
-    go false true w = refl
-    go false false true = refl
-    go false false false = refl
+own-ready n t p b = among (λ f. f .ready ≡ b) _ _ _ _ refl refl refl refl (eqb n 6) (eqb n 21) (eqb n 34)
+
+-- only the first two
+taken-so : (a b c d : Facts) → c .taken ≡ false → d .taken ≡ false → (u v w : Bool) → cond u a (cond v b (cond w c d)) .taken ≡ true
+    → (u || v) ≡ true
+taken-so a b c d g h true v w e = refl
+taken-so a b c d g h false true w e = refl
+taken-so a b c d g h false false true e = clash e g
+taken-so a b c d g h false false false e = clash e h
 
 pub own-taken : (n : ℕ) (t : Times) (p : Prediction) (b : Bool) → ownFacts n t p b .taken ≡ true → (eqb n 6 || eqb n 21) ≡ true
 unfolding ownFacts
-own-taken n t p b = go (eqb n 6) (eqb n 21) (eqb n 34)
-  where
-    go : (u v w : Bool) → cond u (onCancel t p b) (cond v (onAccess t b) (cond w (onNone b) (asItIs b))) .taken ≡ true → (u || v) ≡ true
-    go true v w e = refl
-    go false true w e = refl
-    go false false true e = clash e refl
-    go false false false e = clash e refl
+own-taken n t p b = taken-so _ _ _ _ refl refl (eqb n 6) (eqb n 21) (eqb n 34)
 
 pub all-ready : (n : ℕ) (t : Times) (s : State) (c : Carrier) (p : Prediction) → allFacts n t s c p .ready ≡ isReady s c
 unfolding allFacts
