@@ -9,6 +9,7 @@ use lib.Seq.{length-take-le}
 use borrow.Author.Tests.{ne-eqb}
 use Rattle.lists.specs.Lists.{every, fill}
 use Rattle.lists.proofs.Bools.{and-l, and-r}
+use Rattle.records.specs.declared.name.Name.{Name}
 use Rattle.rules.specs.declared.tool.Tool.{Tool}
 use Rattle.rules.specs.declared.row.Seen.{Seen}
 use Rattle.rules.specs.declared.row.Effect.{Effect}
@@ -129,6 +130,7 @@ module _ (t : Tool) (m : List ℕ) (i : Input) (h : soundTool (twoIn t m) ≡ tr
     reports = noteAll noReports (toldBy t act);
     goes = act .goes;
     made = act .made;
+    gone = base.recordAt t (act .goes) .name;
   } ≡ givenIn (twoIn t m) i
   unfolding givenIn stateAfter inTool
   accepted-is z =
@@ -138,6 +140,7 @@ module _ (t : Tool) (m : List ℕ) (i : Input) (h : soundTool (twoIn t m) ≡ tr
         bridge t k act,
         reports-are t (base-is-sound t m h) k act (act-apt z),
         maps-follow act,
+        record-held t k (act .goes),
       )
 
   pub refused-is : (answer ≡ 0 → ⊥) → refused (twoIn t m) answer ≡ givenIn (twoIn t m) i
@@ -145,11 +148,11 @@ module _ (t : Tool) (m : List ℕ) (i : Input) (h : soundTool (twoIn t m) ≡ tr
   refused-is d = rw (← answered, ne-eqb answer 0 d)
 
 -- ── From what the code found ──
-pub given-of : {t u : Tool} {l k : List (List ℕ)} {a b : ℕ} {r q : Reports} {g j : ℕ} {c d : Bool}
-    → t ≡ u → l ≡ k → a ≡ b → r ≡ q → g ≡ j → c ≡ d → _≡_ {A = Given}
-    (record { tool = record { base = t; maps = l }; answer = a; reports = r; goes = g; made = c })
-    (record { tool = record { base = u; maps = k }; answer = b; reports = q; goes = j; made = d })
-given-of p q r s t u = rw (p, q, r, s, t, u)
+pub given-of : {t u : Tool} {l k : List (List ℕ)} {a b : ℕ} {r q : Reports} {g j : ℕ} {c d : Bool} {n v : Name}
+    → t ≡ u → l ≡ k → a ≡ b → r ≡ q → g ≡ j → c ≡ d → n ≡ v → _≡_ {A = Given}
+    (record { tool = record { base = t; maps = l }; answer = a; reports = r; goes = g; made = c; gone = n })
+    (record { tool = record { base = u; maps = k }; answer = b; reports = q; goes = j; made = d; gone = v })
+given-of p q r s t u v = rw (p, q, r, s, t, u, v)
 
 pub row-made : (n : ℕ) (maps : List (List ℕ)) (codes : List ℕ) (x y : Seen) (c : Codes) → x ≡ y
     → c ≡ codesAt n maps (x .stands) (x .map) codes → rowOf n x c ≡ rowOf n y (codesAt n maps (y .stands) (y .map) codes)

@@ -20,25 +20,40 @@ use crate::layout::*;
 use follow::blocks::BLOCKS;
 use follow::table::follow;
 use image::layout::*;
+use image::read::name_from;
 use image::read::port_at;
 use image::read::record_at;
 use image::report::no_reports;
 use parts::apply::apply;
 use parts::report::told;
+use records::name::Name;
+use records::sizes::RECORDS;
 use records::sizes::SLOTS;
 use rules::row::Effect;
 use sight::look::look;
 
-// The answer; for a layer around this one, the position of the record that went (the number of records: none), and whether
-// one was made.
+// The answer; for a layer around this one, the position of the record that went (the number of records: none), whether one
+// was made, and the name of the one that went (no name: none), which can't be read off the bytes any more.
 pub struct Moved {
     pub answer: u8,
     pub goes: usize,
     pub made: bool,
+    pub gone: Name,
 }
 
 // Lent as a slice, an array's length is known from then on.
 fn blocks(m: &[[u8; TOOL_BYTES]]) {}
+
+// The name of the record at a position; no name where none stands.
+pub fn name_at(m: &[u8; TOOL_BYTES], k: usize) -> Name
+    ensures { λ r. ⌜ r ≡ recordAt (toolFrom (now (m .entry))) k .name ⌝ }
+{
+    if k < RECORDS {
+        name_from(m, RECORDS_START + CARRIER_BYTES * k)
+    } else {
+        Name::none()
+    }
+}
 
 // An effect's reports, and the effect.
 pub fn carry_out(m: &mut [u8; TOOL_BYTES], o: &mut [u8; REPORTS_BYTES], e: Effect)
@@ -75,6 +90,8 @@ pub fn step_sound(
         (inputOf number port value (now (name .entry)) (now (codes .entry))) .goes ⌝ }
     ensures { λ r. ⌜ r .made ≡ givenIn (mappedIn (now (m .entry)))
         (inputOf number port value (now (name .entry)) (now (codes .entry))) .made ⌝ }
+    ensures { λ r. ⌜ r .gone ≡ givenIn (mappedIn (now (m .entry)))
+        (inputOf number port value (now (name .entry)) (now (codes .entry))) .gone ⌝ }
     ensures { λ r. ⌜ KeptOutside 0 900 (ownIn (now (m .entry))) (ownIn (now (m .exit))) ⌝ }
 {
     blocks(m);
@@ -85,12 +102,14 @@ pub fn step_sound(
     if answer == 0 {
         let e = amended_effect(number, x, c);
         let new = new_map(number, map);
+        let gone = name_at(&m[0], e.goes);
         carry_out(&mut m[0], o, e);
         follow(&mut m[1], MAPS_START, SLOTS, x.count, e.goes, e.made, &new);
         Moved {
             answer,
             goes: e.goes,
             made: e.made,
+            gone,
         }
     } else {
         no_reports(o);
@@ -98,6 +117,7 @@ pub fn step_sound(
             answer,
             goes: x.count,
             made: false,
+            gone: Name::none(),
         }
     }
 }

@@ -3,8 +3,11 @@ use Prim.Native.Nat.{ℕ}
 use mathlib.Core.Bool.{Bool, false, cond}
 use mathlib.Core.List.{List}
 use lib.Dec.{eqb}
+use Rattle.records.specs.declared.name.Name.{Name}
+use Rattle.records.specs.Names.{noName}
 use Rattle.rules.specs.declared.row.Effect.{Effect}
 use Rattle.rules.specs.declared.report.Reports.{Reports}
+use Rattle.rules.specs.State.{recordOf}
 use Rattle.rules.specs.Seen.{Input, see}
 use Rattle.rules.specs.Row as base
 use Rattle.rules.specs.Row.{Row, lowest}
@@ -28,18 +31,19 @@ enact e map s = record { base = base.enact e (s .base); maps = followed (e .goes
 unfoldable pub stateAfter : Mapped → Input → Mapped
 stateAfter s i = cond (eqb (answerIn s i) 0) (enact (rowIn s i .effect) (newMap (i .number) (i .codes)) s) s
 
--- What an input gives; and, for a layer around this one, the position of the record that went (the number of records: none)
--- and whether one was made.
+-- What an input gives; and, for a layer around this one, the position of the record that went (the number of records: none),
+-- whether one was made, and the name of the one that went (no name: none), which the state that follows doesn't have.
 pub record Given : Type 0 where
   pub tool : MappedTool
   pub answer : ℕ
   pub reports : Reports
   pub goes : ℕ
   pub made : Bool
+  pub gone : Name
 
 -- Refused: nothing changes, and nothing is reported.
 abbrev pub refused : MappedTool → ℕ → Given
-refused t n = record { tool = t; answer = n; reports = noReports; goes = t .base .count; made = false }
+refused t n = record { tool = t; answer = n; reports = noReports; goes = t .base .count; made = false; gone = noName }
 
 -- Accepted: the state that follows, and every difference to it.
 abbrev pub accepted : Mapped → Mapped → Effect → Given
@@ -49,6 +53,7 @@ accepted before after e = record {
   reports = listed (differences (before .base) (after .base));
   goes = e .goes;
   made = e .made;
+  gone = recordOf (before .base) (e .goes) .name;
 }
 
 -- an input to a tool that is known to be sound

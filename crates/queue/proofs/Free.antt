@@ -13,7 +13,7 @@ use Rattle.records.specs.declared.port.Port.{Port}
 use Rattle.records.specs.Names.{noName, sameName, headOr0, zeroEnded, holdsName}
 use Rattle.records.specs.Ports.{noPort, reserved, hasPod}
 use Rattle.records.specs.Fields.{withTransfer, withAccess}
-use Rattle.records.specs.Carriers.{atPort}
+use Rattle.records.specs.Carriers.{noCarrier, atPort}
 use Rattle.rules.specs.declared.row.Seen.{Seen}
 use Rattle.rules.specs.declared.row.Effect.{Effect}
 use Rattle.rules.specs.State.{State, portOf, recordOf}
@@ -56,6 +56,11 @@ nobody = refl
 pub none-zero : (s : State) → Facts s → portOf s 0 ≡ noPort
 unfolding portOf
 none-zero s f = List·getD-eq-default (s .ports) noPort (f .fewPorts)
+
+-- and no record stands after the last one
+pub nobody-last : (s : State) → recordOf s (length (s .carriers)) ≡ noCarrier
+unfolding recordOf
+nobody-last s = List·getD-eq-default (s .carriers) noCarrier (omega arith)
 
 module _ (s : State) (i : Input) (f : Facts s) (p : ℕ) (k : keptFree (portOf s p) ≡ true) where
   abbrev x : Seen

@@ -28,7 +28,7 @@ use Rattle.queue.proofs.Walk.{Plain, walk}
 
 -- ── Ignored ──
 -- two rows that come to the same
-record Alike (s : Mapped) (a b : Row) : Type 0 where
+pub record Alike (s : Mapped) (a b : Row) : Type 0 where
   pub grounds : a .grounds ≡ b .grounds
   pub queue : a .queue ≡ b .queue
   pub answers : answersIn s (a .stands) ≡ answersIn s (b .stands)
@@ -65,7 +65,7 @@ module _ (i : Input) (name : List ℕ) (f : takesName (i .number) ≡ false) whe
         made = ap (λ (r : base-row.Row). r .effect .made) e;
       }
 
-  rows-alike : (s : Queued) → Alike (s .mapped) (rowIn s (called name i)) (rowIn s i)
+  pub rows-alike : (s : Queued) → Alike (s .mapped) (rowIn s (called name i)) (rowIn s i)
   unfolding rowOf see base.takesName
   rows-alike s =
       let other = other-number (i .number) in
@@ -126,7 +126,7 @@ module _ (i : Input) (h : isName (i .name) ≡ false) (t : takesName (i .number)
     unfolding takesName
     takes-base p = or-first _ (eqb (i .number) 29) t (ne-eqb _ 29 (p .notCancel))
 
-    answers : answerIn s i ≡ 1
+    pub answers : answerIn s i ≡ 1
     unfolding answerIn takesName base.takesName
     answers = walk One (i .number) (baseOf s) (s .queue) x i (record {
       cancelCarrier = λ z. passed-one [] (s .queue) (rw z);

@@ -4,7 +4,10 @@ use mathlib.Core.Bool.{Bool, false, cond}
 use mathlib.Core.List.{List, [], _∷_}
 use lib.ListN.{length}
 use lib.Dec.{eqb}
+use Rattle.records.specs.declared.name.Name.{Name}
+use Rattle.records.specs.Names.{noName}
 use Rattle.rules.specs.declared.report.Reports.{Reports}
+use Rattle.rules.specs.State.{recordOf}
 use Rattle.rules.specs.Seen.{Input, see}
 use Rattle.rules.specs.Row.{lower, lowest}
 use Rattle.rules.specs.Reports.{listed, noReports, differences}
@@ -50,10 +53,11 @@ pub record Given : Type 0 where
   pub reports : Reports
   pub goes : ℕ
   pub made : Bool
+  pub gone : Name
 
 -- Refused: nothing changes, and nothing is reported.
 abbrev pub refused : QueuedTool → ℕ → Given
-refused t n = record { tool = t; answer = n; reports = noReports; goes = t .mapped .base .count; made = false }
+refused t n = record { tool = t; answer = n; reports = noReports; goes = t .mapped .base .count; made = false; gone = noName }
 
 -- Accepted: the state that follows, and every difference to it.
 abbrev pub accepted : Queued → Queued → List Input → Given
@@ -63,6 +67,7 @@ accepted before after stands = record {
   reports = listed (differences (baseOf before) (baseOf after));
   goes = goesIn (before .mapped) stands;
   made = madeIn (before .mapped) stands;
+  gone = recordOf (baseOf before) (goesIn (before .mapped) stands) .name;
 }
 
 -- what is given below, beside a queue: so many requests are used of a table
@@ -73,6 +78,7 @@ beside waiting queue g = record {
   reports = g .reports;
   goes = g .goes;
   made = g .made;
+  gone = g .gone;
 }
 
 -- an input to a tool that is known to be sound

@@ -8,6 +8,7 @@ use lib.ListN.{length, getD, set, take, length-set}
 use lib.Seq.{take-all, getD-set-same, getD-set-other}
 use Rattle.lists.specs.Lists.{any, fill, without}
 use Rattle.records.specs.declared.name.Name.{Name}
+use Rattle.records.specs.Names.{noName}
 use Rattle.rules.specs.declared.row.Effect.{Effect}
 use Rattle.rules.specs.State as base
 use Rattle.rules.specs.declared.tool.Tool.{Tool}
@@ -30,6 +31,7 @@ use Rattle.queue.specs.Requests.{noRequest, startedTo, startedStands}
 use Rattle.queue.specs.State.{Queued, baseOf, stateOf, inTool}
 use Rattle.queue.specs.Sound.{soundTool}
 use Rattle.queue.specs.Outcome.{answerIn, stateAfter, goesIn, madeIn, givenIn}
+use Rattle.queue.proofs.Free.{nobody-last}
 use Rattle.queue.proofs.Outs.{handsOut}
 use Rattle.queue.proofs.SoundRuns.{sound-parts, sound-after}
 use Rattle.queue.proofs.Ended.{under-way-there, done-accepted, base-then, maps-then, goes-then, made-then, out-apt, queue-left}
@@ -77,6 +79,7 @@ module _ (m : List (List ℕ)) (h : soundTool (queuedIn m) ≡ true) (i : Input)
     reports = noteAll noReports (toldBy (tool m h) act);
     goes = length (baseOf s .carriers);
     made = false;
+    gone = noName;
   } ≡ givenIn (queuedIn m) i
   unfolding givenIn inTool maps.inTool
   given-is =
@@ -91,13 +94,14 @@ module _ (m : List (List ℕ)) (h : soundTool (queuedIn m) ≡ true) (i : Input)
         reports-are (tool m h) (base-is m h) (held m h) act a,
         goes-then s i (state-sound m h) z (ending .name) u,
         made-then s i (state-sound m h) z (ending .name) u,
+        nobody-last (baseOf s),
       )
 
   -- ── From the two blocks that are left ──
   module _ (y w o : List ℕ) (r : Moved) (two : 1 < length m) (k : KeptOutside 900 1189 (getD (set m 0 y) 1 []) w)
       (l : Holds w (without (startedStands p (queueOf (ownIn m))) (queueOf (ownIn m))))
       (b : toolFrom y ≡ applied (tool m h) act) (e : reportsFrom o ≡ noteAll noReports (toldBy (tool m h) act))
-      (v : r ≡ record { answer = 0; goes = length (baseOf s .carriers); made = false }) where
+      (v : r ≡ record { answer = 0; goes = length (baseOf s .carriers); made = false; gone = noName }) where
     abbrev n : List (List ℕ)
     n = set (set m 0 y) 1 w
 
@@ -122,6 +126,7 @@ module _ (m : List (List ℕ)) (h : soundTool (queuedIn m) ≡ true) (i : Input)
           (ap waitingIn own-then ∙ l .waiting ∙ ap length (sym queue-then) ∙ ap length (sym (take-all 16 (stateAfter s i .queue) few-then)))
           (ap queueFrom own-then ∙ l .queue ∙ ap (fill 16 noRequest) (sym queue-then))
           (ap (λ (x : Moved). x .answer) v) e (ap (λ (x : Moved). x .goes) v) (ap (λ (x : Moved). x .made) v)
+          (ap (λ (x : Moved). x .gone) v)
           ∙ given-is,
       subst⁻¹ (KeptOutside 0 1189 (ownIn m)) own-then (kept-wider (omega arith) (omega arith) kept),
     )

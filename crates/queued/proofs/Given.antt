@@ -10,6 +10,8 @@ use lib.Seq.{take-all, getD-set-same, getD-set-other}
 use lib.Dec.{eqb}
 use borrow.Author.Tests.{eqb-true, ne-eqb}
 use Rattle.lists.specs.Lists.{fill}
+use Rattle.records.specs.declared.name.Name.{Name}
+use Rattle.records.specs.Names.{noName}
 use Rattle.rules.specs.declared.report.Reports.{Reports}
 use Rattle.rules.specs.Seen.{Input}
 use Rattle.rules.specs.Row.{Ground, lower, lowest}
@@ -30,6 +32,7 @@ use Rattle.queue.specs.State.{Queued, baseOf, QueuedTool, stateOf, inTool}
 use Rattle.queue.specs.Sound.{soundTool}
 use Rattle.queue.specs.Rows.{Row, passedOn}
 use Rattle.queue.specs.Outcome.{rowIn, answersIn, answerIn, stateAfter, goesIn, madeIn, Given, beside, givenIn}
+use Rattle.queue.proofs.Free.{nobody-last}
 use Rattle.queue.proofs.SoundRuns.{sound-parts, sound-after}
 use Rattle.queue.proofs.Ended.{accepted-is}
 use Rattle.queue.proofs.Passed.{taken-given, refused-given, passed-given}
@@ -42,11 +45,11 @@ use Rattle.queued.proofs.Held.{tool, base-is, mapped-again, count-is, s
 use Rattle.queued.proofs.Seven.{no-difference}
 
 -- the same parts, the same Given
-pub given-of : {t u : MappedTool} {w x : ℕ} {q p : List Request} {a b : ℕ} {r s : Reports} {g j : ℕ} {c d : Bool}
-    → t ≡ u → w ≡ x → q ≡ p → a ≡ b → r ≡ s → g ≡ j → c ≡ d → _≡_ {A = Given}
-    (record { tool = record { mapped = t; waiting = w; queue = q }; answer = a; reports = r; goes = g; made = c })
-    (record { tool = record { mapped = u; waiting = x; queue = p }; answer = b; reports = s; goes = j; made = d })
-given-of a b c d e f g = rw (a, b, c, d, e, f, g)
+pub given-of : {t u : MappedTool} {w x : ℕ} {q p : List Request} {a b : ℕ} {r s : Reports} {g j : ℕ} {c d : Bool} {n v : Name}
+    → t ≡ u → w ≡ x → q ≡ p → a ≡ b → r ≡ s → g ≡ j → c ≡ d → n ≡ v → _≡_ {A = Given}
+    (record { tool = record { mapped = t; waiting = w; queue = q }; answer = a; reports = r; goes = g; made = c; gone = n })
+    (record { tool = record { mapped = u; waiting = x; queue = p }; answer = b; reports = s; goes = j; made = d; gone = v })
+given-of a b c d e f g h = rw (a, b, c, d, e, f, g, h)
 
 pub lower-none : (n : ℕ) → lower n 0 ≡ n
 unfolding lower
@@ -98,7 +101,7 @@ module _ (m : List (List ℕ)) (h : soundTool (queuedIn m) ≡ true) (i : Input)
 
   -- what is left where nothing moves
   abbrev Stays : ℕ → Moved → Type 0
-  Stays a r = r ≡ record { answer = a; goes = tool m h .count; made = false }
+  Stays a r = r ≡ record { answer = a; goes = tool m h .count; made = false; gone = noName }
 
   pub refused-left : (a : ℕ) (o : List ℕ) (r : Moved) → answerIn s i ≡ a → a ≢ 0 → Stays a r → reportsFrom o ≡ noReports
       → (left m o r ≡ givenIn t i) × KeptOutside 0 1189 (ownIn m) (ownIn m)
@@ -130,6 +133,7 @@ module _ (m : List (List ℕ)) (h : soundTool (queuedIn m) ≡ true) (i : Input)
       reports = noReports;
       goes = tool m h .count;
       made = false;
+      gone = noName;
     } ≡ givenIn t i
     unfolding givenIn stateAfter inTool goesIn madeIn maps-runs.reached
     alone-is z =
@@ -139,12 +143,14 @@ module _ (m : List (List ℕ)) (h : soundTool (queuedIn m) ≡ true) (i : Input)
           row,
           mapped-again m h,
           no-difference (baseOf s) (holding.tool-sound (tool m h) (base-is m h)),
+          nobody-last (baseOf s),
           count-is m h,
         )
 
     -- accepted: another queue in the second block
     pub alone-left : lowest gs ≡ 0 → (w o : List ℕ) (r : Moved) → 1 < length m → KeptOutside 900 1189 (ownIn m) w → Holds w q
-        → r ≡ record { answer = 0; goes = toolFrom (getD (set m 1 w) 0 []) .count; made = false } → reportsFrom o ≡ noReports
+        → r ≡ record { answer = 0; goes = toolFrom (getD (set m 1 w) 0 []) .count; made = false; gone = noName }
+        → reportsFrom o ≡ noReports
         → (left (set m 1 w) o r ≡ givenIn t i) × KeptOutside 0 1189 (ownIn m) (ownIn (set m 1 w))
     alone-left z w o r two k l p e =
         let f = few-then _ row (alone-answer ∙ z) in (
@@ -186,10 +192,12 @@ module _ (m : List (List ℕ)) (h : soundTool (queuedIn m) ≡ true) (i : Input)
           reports = reportsFrom o;
           goes = r .goes;
           made = r .made;
+          gone = r .gone;
         } ≡ beside (length (take 16 q)) (fill 16 noRequest q) (maps.givenIn (mappedIn m) j)
         besides =
             given-of (ap (λ (g : Given). g .tool .mapped) e) refl refl (ap (λ (g : Given). g .answer) e)
             (ap (λ (g : Given). g .reports) e) (ap (λ (g : Given). g .goes) e) (ap (λ (g : Given). g .made) e)
+            (ap (λ (g : Given). g .gone) e)
 
   -- the same input, with the queue as it is
   pub passed-left : (gs : List Ground) → rowIn s i ≡ passedOn gs (queueOf (ownIn m)) i → lowest gs ≡ 0

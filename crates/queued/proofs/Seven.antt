@@ -4,7 +4,7 @@ use native.Mathlib.Omega.{arith}
 use mathlib.Core.Path.{_≡_, refl, ap, sym, _∙_}
 use mathlib.Core.Bool.{Bool, true, false, _&&_}
 use mathlib.Core.List.{List, [], _∷_}
-use lib.ListN.{length, getD, List·getD-eq-default}
+use lib.ListN.{length, getD}
 use lib.Seq.{set-out}
 use borrow.Author.Tests.{eqb-true, eq-eqb}
 use Rattle.lists.specs.Lists.{any}
@@ -20,7 +20,7 @@ use Rattle.records.specs.Carriers.{noCarrier, takenOut}
 use Rattle.records.specs.Fields.{withReserved}
 use Rattle.rules.specs.declared.row.Seen.{Seen}
 use Rattle.rules.specs.declared.row.Effect.{Effect}
-use Rattle.rules.specs.State.{State, portOf, recordOf}
+use Rattle.rules.specs.State.{State, portOf}
 use Rattle.rules.specs.Sound as base-sound
 use Rattle.rules.specs.Seen.{Input, nameStands, narrow, see}
 use Rattle.rules.specs.Row as row
@@ -47,7 +47,7 @@ use Rattle.queue.specs.Sound.{sound}
 use Rattle.queue.specs.Rows.{Row, outDone}
 use Rattle.queue.specs.Dispatch.{isUnderWay, HeldFor}
 use Rattle.queue.specs.Outcome.{rowIn, answersIn, answerIn, enact, stateAfter}
-use Rattle.queue.proofs.Free.{Free, free-is, nobody, none-zero}
+use Rattle.queue.proofs.Free.{Free, free-is, nobody, none-zero, nobody-last}
 use Rattle.queue.proofs.After.{name-held}
 use Rattle.queue.proofs.Lines.{some-stands}
 use Rattle.queue.proofs.Outs.{handsOut}
@@ -90,10 +90,6 @@ module _ (s : State) (h : base-sound.sound s ≡ true) where
     none = λ _ _. refl;
   }
 
-  nobody-then : recordOf s (length (s .carriers)) ≡ noCarrier
-  unfolding recordOf
-  nobody-then = List·getD-eq-default (s .carriers) noCarrier (omega arith)
-
   untouched : touched noPort noCarrier noCarrier nothing ≡ []
   unfolding touched portTouched recordTouched reportIf tieNumber
   untouched = rw (name-same noName noName refl)
@@ -102,7 +98,7 @@ module _ (s : State) (h : base-sound.sound s ≡ true) where
   pub no-difference : differences s s ≡ []
   no-difference =
       rw nothing-is at (differences-touched s nothing (few-ports s h) (distinct s h) nothing-apt)
-      ∙ rw (none-zero s (facts s h), nobody-then) untouched
+      ∙ rw (none-zero s (facts s h), nobody-last s) untouched
 
 -- ── OutDone ──
 -- what its effect touches, of a port x that is kept free and a carrier w
@@ -175,10 +171,6 @@ module _ (s : Queued) (i : Input) (h : sound s ≡ true) (z : i .number ≡ 28) 
           clash (name-held (baseOf s) n (kept .stored) (facts (baseOf s) base-is-sound)) (ap holdsName (name-is n noName e) ∙ nobody)
       go false e = refl
 
-  nobody-goes : recordOf (baseOf s) (length (baseOf s .carriers)) ≡ noCarrier
-  unfolding recordOf
-  nobody-goes = List·getD-eq-default (baseOf s .carriers) noCarrier (omega arith)
-
   -- its reports: transfer, reservation and tie, in this order
   pub done-reports : differences (baseOf s) (baseOf (stateAfter s i)) ≡ reported 1 p 1 2 ∷ reported 3 p 1 0 ∷ reported 4 p 0 1 ∷ []
   unfolding carrierOf
@@ -187,7 +179,7 @@ module _ (s : Queued) (i : Input) (h : sound s ≡ true) (z : i .number ≡ 28) 
       (differences-touched (baseOf s) (handsOut (baseOf s) p n) (few-ports (baseOf s) base-is-sound) (distinct (baseOf s) base-is-sound)
       (out-apt s i h z n under-way)
       ∙ three (length (baseOf s .carriers)) p (nameStands (baseOf s) n) n (portOf (baseOf s) p) _ (carrierOf (baseOf s) n)
-      (free .ready) (free .reserved) (free .tie) (name-sym noName n ∙ somebody) somebody nobody-goes)
+      (free .ready) (free .reserved) (free .tie) (name-sym noName n ∙ somebody) somebody (nobody-last (baseOf s)))
 
 -- ── Every input ──
 module _ (s : Queued) (i : Input) (h : sound s ≡ true) (a : answerIn s i ≡ 0) where

@@ -13,4 +13,4 @@ queuedIn m = record { mapped = mappedIn m; waiting = waitingIn (ownIn m); queue 
 
 -- what a step leaves: the bytes of the tool and of the reports, and what it hands up
 abbrev pub left : List (List ℕ) → List ℕ → Moved → Given
-left m o r = record { tool = queuedIn m; answer = r .answer; reports = reportsFrom o; goes = r .goes; made = r .made }
+left m o r = record { tool = queuedIn m; answer = r .answer; reports = reportsFrom o; goes = r .goes; made = r .made; gone = r .gone }

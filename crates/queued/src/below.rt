@@ -1,6 +1,7 @@
 // An input that goes on below, with the queue beside it; and one that leaves nothing to report.
 ghost use mathlib.Core.Path.{_≡_};
 ghost use mathlib.Core.Bool.{true, false};
+ghost use Rattle.records.specs.Names.{noName};
 ghost use Rattle.rules.specs.Seen.{inputOf};
 ghost use Rattle.rules.specs.Reports.{noReports};
 ghost use Rattle.image.specs.Image.{toolFrom, reportsFrom};
@@ -18,13 +19,14 @@ use image::report::no_reports;
 use mapped::step::Moved;
 use mapped::step::step_sound;
 use records::choose::wide;
+use records::name::Name;
 
 // Lent as a slice, an array's length is known from then on.
 pub fn blocks(m: &[[u8; TOOL_BYTES]]) {}
 
 // An answer with nothing to report, and no record that goes or is made.
 pub fn unmoved(m: &[u8; TOOL_BYTES], o: &mut [u8; REPORTS_BYTES], answer: u8) -> Moved
-    ensures { λ r. ⌜ r ≡ record { answer = answer; goes = toolFrom (now (m .entry)) .count; made = false } ⌝ }
+    ensures { λ r. ⌜ r ≡ record { answer = answer; goes = toolFrom (now (m .entry)) .count; made = false; gone = noName } ⌝ }
     ensures { λ r. ⌜ reportsFrom (now (o .exit)) ≡ noReports ⌝ }
 {
     no_reports(o);
@@ -32,6 +34,7 @@ pub fn unmoved(m: &[u8; TOOL_BYTES], o: &mut [u8; REPORTS_BYTES], answer: u8) ->
         answer,
         goes: wide(count(m)),
         made: false,
+        gone: Name::none(),
     }
 }
 

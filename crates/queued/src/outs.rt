@@ -29,6 +29,7 @@ use mapped::step::carry_out;
 use ports::service::reserve_at_port_answer;
 use records::choose::first;
 use records::choose::wide;
+use records::name::Name;
 use records::words::*;
 use rules::row::Effect;
 use rules::row::Seen;
@@ -112,6 +113,7 @@ pub fn out_done(
             answer: 0,
             goes: x.count,
             made: false,
+            gone: Name::none(),
         }
     } else {
         unmoved(&m[0], o, first(x.isport, 5, 1))

@@ -7,7 +7,7 @@ use mathlib.Core.List.{List, []}
 use lib.ListN.{length, getD, set, length-set}
 use lib.Seq.{getD-set-same, getD-set-other}
 use Rattle.rules.specs.declared.tool.Tool.{Tool}
-use Rattle.rules.specs.State.{stateOf}
+use Rattle.rules.specs.State.{stateOf, recordAt}
 use Rattle.rules.specs.Held.{Held}
 use Rattle.rules.specs.Seen.{Input, inputOf, see}
 use Rattle.rules.specs.Row.{judge}
@@ -89,17 +89,18 @@ look-requires c κs = held (c .before .before .before .before .before .before)
 
 carry-out-requires : tie.Need-carry-out-requires
 carry-out-requires c κs =
-    let k = held (first (c .before .before .before .before .before .before .before .before .before)) in
+    let k = held (first (c .before .before .before .before .before .before .before .before .before .before .before)) in
     (k .fewPorts, k .fewCarriers)
 
 follow-requires : tie.Need-follow-requires
 follow-requires c κs =
-    (omega arith, (few (c .before .before .before .before .before .before .before .before .before .before .before .before), search needs))
+    (omega arith, (few (c .before .before .before .before .before .before .before .before .before .before .before .before .before .before), search needs))
 
 returns : tie.Need-returns
 returns c =
     let d = c .before .before .before in
-    let n = d .before .before .before in
+    let a = d .before .before .before in
+    let n = a .before .before in
     let e = n .before in
     let j = e .before in
     let l = j .before .before .before .before .before in
@@ -124,6 +125,7 @@ returns c =
     (d .carry-out .ensures .1 ∙ ap (λ e. noteAll noReports (toldBy (tool s) e)) f)
     (ap (λ e. e .goes) f)
     (ap (λ e. e .made) f)
+    (a .name-at .ensures ∙ ap (λ e. recordAt (tool s) (e .goes) .name) f)
     ∙ accepted-is (tool s) (own s) (input s) (sound s) (held s) z in (
       ap (λ x. x .tool) g,
       (
@@ -134,7 +136,10 @@ returns c =
             ap (λ x. x .goes) g,
             (
               ap (λ x. x .made) g,
-              subst (λ x. KeptOutside 0 900 (own s) x) (sym there) (subst (λ x. KeptOutside 0 900 x w) other (c .follow .ensures .1)),
+              (
+                ap (λ x. x .gone) g,
+                subst (λ x. KeptOutside 0 900 (own s) x) (sym there) (subst (λ x. KeptOutside 0 900 x w) other (c .follow .ensures .1)),
+              ),
             ),
           ),
         ),
@@ -143,12 +148,12 @@ returns c =
 
 returns-2 : tie.Need-returns-2
 returns-2 c =
-    let j = c .before .before in
+    let j = c .before .before .before in
     let l = j .before .before .before .before .before in
     let s = first l in
     let a = answered (j .before) in
-    let g = given-of refl refl a (c .no-reports .ensures)
-    (ap (λ x. x .count) (looked l) ∙ counted (tool s) (own s) (input s) (sound s) (held s)) refl
+    let g = given-of refl refl a (c .before .no-reports .ensures)
+    (ap (λ x. x .count) (looked l) ∙ counted (tool s) (own s) (input s) (sound s) (held s)) refl (c .none .ensures)
     ∙ refused-is (tool s) (own s) (input s) (sound s) (held s) (λ z. j .if1 .left (a ∙ z)) in (
       ap (λ x. x .tool) g,
       (
@@ -159,7 +164,10 @@ returns-2 c =
             ap (λ x. x .goes) g,
             (
               ap (λ x. x .made) g,
-              kept-all 0 900 (own s),
+              (
+                ap (λ x. x .gone) g,
+                kept-all 0 900 (own s),
+              ),
             ),
           ),
         ),
@@ -170,4 +178,5 @@ pub step-sound-spec : {M : Type 1} → statement M
 step-sound-spec =
     tie.close
     (tie.spec (λ c κs. tt) (λ c. search needs) look-requires (λ c. search needs) (λ c κs. tt) (λ c κs. tt) (λ c κs. tt) (λ c κs. tt)
-    (λ c. search needs) carry-out-requires (λ c. search needs) (λ c. search needs) follow-requires (λ c κs. tt) returns returns-2)
+    (λ c. search needs) (λ c κs. tt) (λ c. search needs) carry-out-requires (λ c. search needs) (λ c. search needs) follow-requires
+    (λ c κs. tt) (λ c κs. tt) returns returns-2)

@@ -1,7 +1,7 @@
 use borrow.Author.Needs.{needs}
 use native.Mathlib.Omega.{arith}
 use Prim.Native.Nat.{ℕ, _<_}
-use mathlib.Core.Path.{_≡_, refl, sym, ap, _∙_}
+use mathlib.Core.Path.{_≡_, refl, sym, ap, ap₂, _∙_}
 use mathlib.Core.Logic.{_≢_}
 use mathlib.Core.Bool.{Bool, true, false, cond}
 use mathlib.Core.List.{List, [], _∷_}
@@ -115,14 +115,15 @@ module _ (c : tie.After-remove) where
   without-is = rw (stood l, other) at (c .remove .ensures .0)
 
 returns : tie.Need-returns
-returns c =
+returns e =
+    let c = e .before in
     let s = s c in
     let m = m c in
     done-left m (s .pre) (input s) refl (there c) (c .before .before .carry-out .last .0) (c .remove .last .0) (c .before .before .carry-out .last .1 .0) _
     (two (l c .before .before .before .before .before .before .before .before .before)) (c .remove .ensures .1) (without-is c)
     (c .before .before .carry-out .ensures .0 ∙ ap (applied (toolFrom (getD m 0 []))) (acted c))
     (c .before .before .carry-out .ensures .1 ∙ ap (λ e. noteAll noReports (toldBy (toolFrom (getD m 0 [])) e)) (acted c))
-    (ap (λ n. record { answer = 0; goes = n; made = false }) (counted c))
+    (ap₂ (λ n g. record { answer = 0; goes = n; made = false; gone = g }) (counted c) (e .none .ensures))
 
 -- nothing is started there
 refused-so : (a : Bool) → lowest (unless a 1 ∷ unless false 5 ∷ []) ≡ cond a 5 1
@@ -177,5 +178,5 @@ out-done-spec =
     (λ c κs. let s = c .before .before .before .before .before .before .before .before .before .before .before .before .before .before .before in held (s .args .m .now) (s .pre))
     (λ c. search needs) (λ c κs. tt)
     (λ c κs. let s = c .before .before .before .before .before .before .before .before .before .before .before .before .before .before .before .before .before .before in holds (s .args .m .now) (s .pre))
-    (λ c. search needs) (λ c κs. tt) carry-out-requires (λ c. search needs) remove-requires (λ c. search needs) (λ c κs. tt) (λ c κs. tt)
-    returns returns-2)
+    (λ c. search needs) (λ c κs. tt) carry-out-requires (λ c. search needs) remove-requires (λ c κs. tt) (λ c. search needs)
+    (λ c κs. tt) (λ c κs. tt) returns returns-2)
