@@ -106,16 +106,16 @@ module _ (a b : List ℕ) where
     one-image full whole = ext-getD 0 a b (full ∙ sym whole) (λ i h. each-byte i (omega arith))
 
   module _ (e : reportsFrom a ≡ reportsFrom b) where
-    report-byte : (k f : ℕ) → k < 7 → f < 20 → byteAt a (reportStart k + f) ≡ byteAt b (reportStart k + f)
+    report-byte : (k f : ℕ) → k < 10 → f < 20 → byteAt a (reportStart k + f) ≡ byteAt b (reportStart k + f)
     report-byte k f c =
         same-bytes reportFrom reportBytes 20 (reportStart k) (λ m. report-spelt m (reportStart k))
         (sym (item-is a k noReport c) ∙ ap (λ t. getD (t .items) k noReport) e ∙ item-is b k noReport c) f
 
-    pub reported-byte : (i : ℕ) → i < 141 → byteAt a i ≡ byteAt b i
+    pub reported-byte : (i : ℕ) → i < 201 → byteAt a i ≡ byteAt b i
     reported-byte zero h = sym (reported-is a) ∙ ap (λ t. t .count) e ∙ reported-is b
     reported-byte (suc j) h =
-        in-entry 20 refl (λ n. omega arith) (byteAt a (suc j) ≡ byteAt b (suc j)) 7 1 (suc j) (omega arith) (omega arith)
+        in-entry 20 refl (λ n. omega arith) (byteAt a (suc j) ≡ byteAt b (suc j)) 10 1 (suc j) (omega arith) (omega arith)
         (λ k f p q z. rw z (report-byte k f p q))
 
-    pub one-list : length a ≡ 141 → length b ≡ 141 → a ≡ b
+    pub one-list : length a ≡ 201 → length b ≡ 201 → a ≡ b
     one-list full whole = ext-getD 0 a b (full ∙ sym whole) (λ i h. reported-byte i (omega arith))

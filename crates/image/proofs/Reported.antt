@@ -20,19 +20,19 @@ pub reported-is : (m : List ℕ) → reportsFrom m .count ≡ byteAt m 0
 unfolding reportsFrom
 reported-is m = refl
 
-pub item-is : (m : List ℕ) (k : ℕ) (d : Report) → k < 7 → getD (reportsFrom m .items) k d ≡ reportFrom m (reportStart k)
+pub item-is : (m : List ℕ) (k : ℕ) (d : Report) → k < 10 → getD (reportsFrom m .items) k d ≡ reportFrom m (reportStart k)
 unfolding reportsFrom
-item-is m k d b = getD-table 7 (λ k. reportFrom m (reportStart k)) k d b
+item-is m k d b = getD-table 10 (λ k. reportFrom m (reportStart k)) k d b
 
 length-report : (r : Report) → length (r .name .bytes) ≡ 16 → length (reportBytes r) ≡ 20
 unfolding reportBytes
 length-report r e = let l = length-append (r .name .bytes) (r .old ∷ r .new ∷ []) in omega arith
 
-pub none-reported : reportsFrom (replicate 141 0) ≡ noReports
+pub none-reported : reportsFrom (replicate 201 0) ≡ noReports
 unfolding reportsFrom table listed fill
 none-reported = refl
 
-module _ (m : List ℕ) (full : length m ≡ 141) (k : ℕ) (b : k < 7) (r : Report) (e : length (r .name .bytes) ≡ 16) where
+module _ (m : List ℕ) (full : length m ≡ 201) (k : ℕ) (b : k < 10) (r : Report) (e : length (r .name .bytes) ≡ 16) where
   abbrev written : ℕ → List ℕ
   written v = set (sets m (reportStart k) (reportBytes r)) 0 v
 
@@ -57,6 +57,6 @@ module _ (m : List ℕ) (full : length m ≡ 141) (k : ℕ) (b : k < 7) (r : Rep
       let l = length-sets m (reportStart k) (reportBytes r) in
       rw (
         getD-set-same (sets m (reportStart k) (reportBytes r)) 0 v 0 (omega arith),
-        table-set 7 (λ j. reportFrom m (reportStart j)) (λ j. reportFrom (written v) (reportStart j)) k r (there v)
+        table-set 10 (λ j. reportFrom m (reportStart j)) (λ j. reportFrom (written v) (reportStart j)) k r (there v)
             (λ j c d. elsewhere v j d),
       )

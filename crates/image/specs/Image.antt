@@ -101,6 +101,6 @@ reportBytes r = r .model ∷ r .port ∷ (r .name .bytes ++ (r .old ∷ r .new �
 abbrev pub reportStart : ℕ → ℕ
 reportStart k = 1 + 20 * k
 
--- and the report list 141
+-- and the report list 201
 unfoldable pub reportsFrom : List ℕ → Reports
-reportsFrom m = record { count = byteAt m 0; items = table 7 (λ k. reportFrom m (reportStart k)) }
+reportsFrom m = record { count = byteAt m 0; items = table 10 (λ k. reportFrom m (reportStart k)) }

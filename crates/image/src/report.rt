@@ -26,9 +26,9 @@ fn report_bytes(r: Report) -> [u8; REPORT_BYTES]
 
 // The entry at position k.
 pub fn put_report(m: &mut [u8; REPORTS_BYTES], k: usize, r: Report)
-    requires { ⌜ k < 7 ⌝ }
+    requires { ⌜ k < 10 ⌝ }
     ensures { λ _. ⌜ now (m .exit) ≡ sets (now (m .entry)) (reportStart k) (reportBytes r) ⌝ }
-    ensures { λ _. ⌜ length (now (m .entry)) ≡ 141 ⌝ }
+    ensures { λ _. ⌜ length (now (m .entry)) ≡ 201 ⌝ }
 {
     let b = report_bytes(r);
     put(m, REPORTS_START + REPORT_BYTES * k, &b);

@@ -58,16 +58,16 @@ pub given-is : (t : Tool) (i : Input) → soundTool t ≡ true → (u : Tool) (l
 unfolding outcome
 given-is t i h u l a x y z = rw (h, x, y, z)
 
--- seven reports at most
-listed-few : (l : List Report) → listed l .count ≤ 7
+-- ten reports at most
+listed-few : (l : List Report) → listed l .count ≤ 10
 unfolding listed
-listed-few l = let z = length-take 7 l in omega arith
+listed-few l = let z = length-take 10 l in omega arith
 
-pub few : (t : Tool) (i : Input) → outcome t i .reports .count ≤ 7
+pub few : (t : Tool) (i : Input) → outcome t i .reports .count ≤ 10
 unfolding outcome outcomeIn
 few t i =
-    cond-ind (λ (o : Outcome). o .reports .count ≤ 7) (soundTool t)
-    (λ h. cond-ind (λ (o : Outcome). o .reports .count ≤ 7) (eqb (answerIn (stateOf t) i) 0) (λ e. listed-few _) (λ e. listed-few []))
+    cond-ind (λ (o : Outcome). o .reports .count ≤ 10) (soundTool t)
+    (λ h. cond-ind (λ (o : Outcome). o .reports .count ≤ 10) (eqb (answerIn (stateOf t) i) 0) (λ e. listed-few _) (λ e. listed-few []))
     (λ h. listed-few [])
 
 -- what an entry shows stands from its answer on

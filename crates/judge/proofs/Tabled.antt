@@ -28,7 +28,7 @@ use Rattle.logs.proofs.Judged.{after, entriesOf}
 -- seven suffice, so that the list holds all
 listed-back : (l : List Report) → length l ≤ 7 → listOf (listed l) ≡ l
 unfolding listed
-listed-back l h = rw (take-all 7 l h) (take-fill 7 noReport l h)
+listed-back l h = rw (take-all 10 l (omega arith)) (take-fill 10 noReport l (omega arith))
 
 line-few : (s : State) (i : Input) → sound s ≡ true → length (lineOf s i .reports) ≤ 7
 line-few s i h = go (eqb (answerIn s i) 0) refl

@@ -28,13 +28,13 @@ pub record Passed (l : List ℕ) (answer : ℕ) (o : List ℕ) (same : Bool) (at
   pub rest : (same && begins (drop at l) (reports (drop k (list o)))) ≡ begins l (shown answer (list o))
   pub size : at + length (reports (drop k (list o))) ≡ length (shown answer (list o))
 
-module _ (l : List ℕ) (answer : ℕ) (o : List ℕ) (few : reportsFrom o .count ≤ 7) where
+module _ (l : List ℕ) (answer : ℕ) (o : List ℕ) (few : reportsFrom o .count ≤ 10) where
   abbrev told : List Report
   told = list o
 
-  items-long : length (reportsFrom o .items) ≡ 7
+  items-long : length (reportsFrom o .items) ≡ 10
   unfolding reportsFrom
-  items-long = length-table 7 (λ k. reportFrom o (reportStart k))
+  items-long = length-table 10 (λ k. reportFrom o (reportStart k))
 
   list-long : length told ≡ byteAt o 0
   list-long =

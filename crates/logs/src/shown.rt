@@ -22,7 +22,7 @@ pub struct Told {
 
 // How long the name is that begins at a position of the report list: up to its first zero.
 fn text_length(o: &[u8; REPORTS_BYTES], from: usize) -> usize
-    requires { ⌜ from + 16 ≤ 141 ⌝ }
+    requires { ⌜ from + 16 ≤ 201 ⌝ }
     ensures { λ r. ⌜ r ≡ whereIs (λ b. eqb b 0) (nameFrom (now (o .entry)) from .bytes) ⌝ }
     ensures { λ r. ⌜ r ≤ 16 ⌝ }
 {
@@ -37,7 +37,7 @@ fn text_length(o: &[u8; REPORTS_BYTES], from: usize) -> usize
 
 // A report on a port, or one that is read as such: model, port, old, new.
 fn on_port_at(l: &[u8], at: usize, o: &[u8; REPORTS_BYTES], from: usize) -> Told
-    requires { ⌜ (from + 20 ≤ 141) × (at < 2 ^ 63) ⌝ }
+    requires { ⌜ (from + 20 ≤ 201) × (at < 2 ^ 63) ⌝ }
     requires { ⌜ onName (byteAt (now o) from) ≡ false ⌝ }
     ensures { λ r. ⌜ r ≡ toldAt (now (l .entry)) at (reportFrom (now (o .entry)) from) ⌝ }
     ensures { λ r. ⌜ r .at ≤ at + 20 ⌝ }
@@ -54,7 +54,7 @@ fn on_port_at(l: &[u8], at: usize, o: &[u8; REPORTS_BYTES], from: usize) -> Told
 
 // A report on a name: model, name length, name, old, new.
 fn on_name_at(l: &[u8], at: usize, o: &[u8; REPORTS_BYTES], from: usize) -> Told
-    requires { ⌜ (from + 20 ≤ 141) × (at < 2 ^ 63) ⌝ }
+    requires { ⌜ (from + 20 ≤ 201) × (at < 2 ^ 63) ⌝ }
     requires { ⌜ onName (byteAt (now o) from) ≡ true ⌝ }
     ensures { λ r. ⌜ r ≡ toldAt (now (l .entry)) at (reportFrom (now (o .entry)) from) ⌝ }
     ensures { λ r. ⌜ r .at ≤ at + 20 ⌝ }
@@ -76,7 +76,7 @@ fn on_name_at(l: &[u8], at: usize, o: &[u8; REPORTS_BYTES], from: usize) -> Told
 
 // The report that begins at `from` of the report list.
 fn told_at(l: &[u8], at: usize, o: &[u8; REPORTS_BYTES], from: usize) -> Told
-    requires { ⌜ (from + 20 ≤ 141) × (at < 2 ^ 63) ⌝ }
+    requires { ⌜ (from + 20 ≤ 201) × (at < 2 ^ 63) ⌝ }
     ensures { λ r. ⌜ r ≡ toldAt (now (l .entry)) at (reportFrom (now (o .entry)) from) ⌝ }
     ensures { λ r. ⌜ r .at ≤ at + 20 ⌝ }
 {
@@ -90,7 +90,7 @@ fn told_at(l: &[u8], at: usize, o: &[u8; REPORTS_BYTES], from: usize) -> Told
 
 // Bytes are an answer, the count of a report list and its reports.
 pub fn is_shown(l: &[u8], answer: u8, o: &[u8; REPORTS_BYTES]) -> bool
-    requires { ⌜ reportsFrom (now o) .count ≤ 7 ⌝ }
+    requires { ⌜ reportsFrom (now o) .count ≤ 10 ⌝ }
     ensures { λ r. ⌜ r ≡ sameList (now (l .entry)) (shown answer (listOf (reportsFrom (now (o .entry))))) ⌝ }
 {
     let answered = byte_is(l, 0, answer);

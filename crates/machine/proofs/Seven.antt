@@ -29,7 +29,7 @@ use Rattle.machine.proofs.Each.{unchanged}
 use Rattle.machine.proofs.Differ.{differences-touched}
 
 -- a report or none
-one-or-none : (b : Bool) (m p : ℕ) (n : Name) (x y : ℕ) → length (reportIf b m p n x y) ≤ 1
+pub one-or-none : (b : Bool) (m p : ℕ) (n : Name) (x y : ℕ) → length (reportIf b m p n x y) ≤ 1
 unfolding reportIf
 one-or-none true m p n x y = omega arith
 one-or-none false m p n x y = omega arith
@@ -37,7 +37,7 @@ one-or-none false m p n x y = omega arith
 change-one : (m p : ℕ) (n : Name) (x y : ℕ) → length (change m p n x y) ≤ 1
 change-one m p n x y = one-or-none (not (eqb x y)) m p n x y
 
-change-none : (m p : ℕ) (n : Name) (x y : ℕ) → x ≡ y → length (change m p n x y) ≡ 0
+pub change-none : (m p : ℕ) (n : Name) (x y : ℕ) → x ≡ y → length (change m p n x y) ≡ 0
 change-none m p n x y e = ap length (unchanged m p n x y e)
 
 -- at most four of a port, and one where only its tie differs

@@ -25,21 +25,21 @@ reports n l = record { count = n; items = l }
 
 noted-listed : (l : List Report) (r : Report) → noted (listed l) r ≡ listed (l ++ (r ∷ []))
 unfolding noted listed
-noted-listed l r = go (ltb (length l) 7) refl
+noted-listed l r = go (ltb (length l) 10) refl
   where
-    go : (b : Bool) → ltb (length l) 7 ≡ b
-        → cond (ltb (length (take 7 l)) 7) (reports (length (take 7 l) + 1) (set (fill 7 noReport l) (length (take 7 l)) r))
-        (reports (length (take 7 l)) (fill 7 noReport l)) ≡ reports (length (take 7 (l ++ (r ∷ [])))) (fill 7 noReport (l ++ (r ∷ [])))
+    go : (b : Bool) → ltb (length l) 10 ≡ b
+        → cond (ltb (length (take 10 l)) 10) (reports (length (take 10 l) + 1) (set (fill 10 noReport l) (length (take 10 l)) r))
+        (reports (length (take 10 l)) (fill 10 noReport l)) ≡ reports (length (take 10 (l ++ (r ∷ [])))) (fill 10 noReport (l ++ (r ∷ [])))
     go true e =
-        let h = ltb-true (length l) 7 e in
+        let h = ltb-true (length l) 10 e in
         let w = length-append l (r ∷ []) in
-        rw (take-all 7 l (omega arith), e, take-all 7 (l ++ (r ∷ [])) (omega arith), w, push-fill 7 noReport l r)
+        rw (take-all 10 l (omega arith), e, take-all 10 (l ++ (r ∷ [])) (omega arith), w, push-fill 10 noReport l r)
     go false e =
-        let h = ltb-false (length l) 7 e in
-        let n : length (take 7 l) ≡ 7 = length-take-le 7 l (omega arith) in
-        let g = length-fill 7 noReport l in
-        let a : fill 7 noReport (l ++ (r ∷ [])) ≡ fill 7 noReport l = sym (push-fill 7 noReport l r) ∙ set-out _ _ _ (omega arith) in
-        rw (take-append-le 7 l (r ∷ []) (omega arith), a, n)
+        let h = ltb-false (length l) 10 e in
+        let n : length (take 10 l) ≡ 10 = length-take-le 10 l (omega arith) in
+        let g = length-fill 10 noReport l in
+        let a : fill 10 noReport (l ++ (r ∷ [])) ≡ fill 10 noReport l = sym (push-fill 10 noReport l r) ∙ set-out _ _ _ (omega arith) in
+        rw (take-append-le 10 l (r ∷ []) (omega arith), a, n)
 
 note-on : (l k : List Report) → noteAll (listed l) k ≡ listed (l ++ k)
 unfolding noteAll

@@ -12,9 +12,9 @@ use Rattle.rules.specs.declared.report.Report.{Report}
 use Rattle.rules.specs.declared.report.Reports.{Reports}
 use Rattle.rules.specs.Reports.{change, transferChange, accessChange, reservationChange, tieChange}
 
--- one report more, in the next entry; past the seventh nothing is kept
+-- one report more, in the next entry; past the tenth nothing is kept
 unfoldable pub noted : Reports → Report → Reports
-noted rs r = cond (ltb (rs .count) 7) (record { count = rs .count + 1; items = set (rs .items) (rs .count) r }) rs
+noted rs r = cond (ltb (rs .count) 10) (record { count = rs .count + 1; items = set (rs .items) (rs .count) r }) rs
 
 unfoldable pub noteAll : Reports → List Report → Reports
 noteAll rs [] = rs

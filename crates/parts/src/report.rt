@@ -15,7 +15,7 @@ use records::words::*;
 use rules::report::Report;
 use rules::row::Effect;
 
-// One report more, in the next entry; past the seventh nothing is kept.
+// One report more, in the next entry; past the tenth nothing is kept.
 fn noted(o: &mut [u8; REPORTS_BYTES], r: Report)
     ensures { λ _. ⌜ reportsFrom (now (o .exit)) ≡ noted (reportsFrom (now (o .entry))) r ⌝ }
 {
@@ -26,7 +26,15 @@ fn noted(o: &mut [u8; REPORTS_BYTES], r: Report)
     }
 }
 
-fn note_if(o: &mut [u8; REPORTS_BYTES], b: bool, model: u8, port: u8, name: Name, old: u8, new: u8)
+pub fn note_if(
+    o: &mut [u8; REPORTS_BYTES],
+    b: bool,
+    model: u8,
+    port: u8,
+    name: Name,
+    old: u8,
+    new: u8,
+)
     ensures { λ _. ⌜ reportsFrom (now (o .exit)) ≡ noteAll (reportsFrom (now (o .entry))) (reportIf b model port name old new) ⌝ }
 {
     if b {

@@ -22,4 +22,4 @@ pub const EXPECTED_MOST: usize = 16;
 pub const RECORDS: usize = EXPECTED_MOST + PLACES + PORTS;
 
 // reports of one input
-pub const REPORTS: usize = 7;
+pub const REPORTS: usize = 10;

@@ -60,7 +60,7 @@ three-kinds (c ∷ l) h = go (c .place) (h 0 (omega arith)) (three-kinds l (λ j
 
 -- at ports no more than there are ports, in the buffer no more than there are places
 module _ (s : State) (f : Facts s) where
-  few-at-ports : howMany atPort (s .carriers) ≤ length (s .ports)
+  pub few-at-ports : howMany atPort (s .carriers) ≤ length (s .ports)
   unfolding recordOf
   few-at-ports =
       pigeonhole (λ c. c .port) noCarrier (length (s .ports)) atPort (s .carriers)

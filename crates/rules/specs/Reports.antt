@@ -17,9 +17,9 @@ use Rattle.rules.specs.State.{State}
 abbrev pub noReport : Report
 noReport = record { model = 0; port = 0; name = noName; old = 0; new = 0 }
 
--- Seven entries: the list, and zeros past the count.
+-- Ten entries: the list, and zeros past the count.
 unfoldable pub listed : List Report → Reports
-listed l = record { count = length (take 7 l); items = fill 7 noReport l }
+listed l = record { count = length (take 10 l); items = fill 10 noReport l }
 
 abbrev pub noReports : Reports
 noReports = listed []

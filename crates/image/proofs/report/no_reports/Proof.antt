@@ -8,7 +8,7 @@ use Rattle.image.proofs.report.no_reports.Tie as tie
 
 returns : tie.Need-returns
 returns c =
-    let l : length (c .before .before .args .m .now) ≡ 141 = omega arith in
+    let l : length (c .before .before .args .m .now) ≡ 201 = omega arith in
     ap reportsFrom (c .clear .ensures ∙ ap (λ n. replicate n 0) l) ∙ none-reported
 
 pub no-reports-spec : {M : Type 1} → statement M

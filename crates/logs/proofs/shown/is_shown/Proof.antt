@@ -9,12 +9,12 @@ use Rattle.logs.proofs.shown.is_shown.Tie as tie
 
 abbrev Inv-loop : tie.InvT-loop
 Inv-loop l answer o answered counted same₀ at₀ k₀ n same at k =
-    (n ≡ byteAt o 0) × (n ≤ 7) × (k ≤ n) × (at ≤ 2 + 20 * k) × Passed l answer o same at k
+    (n ≡ byteAt o 0) × (n ≤ 10) × (k ≤ n) × (at ≤ 2 + 20 * k) × Passed l answer o same at k
 
 abbrev μ-loop : tie.MeasureT-loop
 μ-loop l answer o answered counted same₀ at₀ k₀ n same at k = n - k
 
-few : (s : tie.Start Inv-loop μ-loop) → reportsFrom (s .args .o .now) .count ≤ 7
+few : (s : tie.Start Inv-loop μ-loop) → reportsFrom (s .args .o .now) .count ≤ 10
 few s = s .pre
 
 loop-holds : tie.Need-loop-holds Inv-loop μ-loop

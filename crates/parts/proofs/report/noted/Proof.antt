@@ -20,7 +20,7 @@ returns c =
     let l : length (r .name .bytes) ≡ 16 = sym (length-map (r .name .bytes) _) ∙ s .good .1 .0 .1 .1 .1 .1 .0 .1 .1 .0 .1 .0 .1 in
     let k = n .reported .result in
     let t = c .before .before .before .if1 .taken in
-    let i = lt-ltb k 7 t in
+    let i = lt-ltb k 10 t in
     let q = rw (c .before .wide .ensures) at (c .put-report .ensures .0) in
     rw (← n .reported .ensures, i) (ap (λ b. reportsFrom (set b 0 (k + 1))) q ∙ one-noted m (c .put-report .ensures .1) k t r l (k + 1))
 
@@ -28,7 +28,7 @@ returns-2 : tie.Need-returns-2
 unfolding noted
 returns-2 c =
     let n = c .before in
-    let i = le-ltb (n .reported .result) 7 (c .if1 .left) in
+    let i = le-ltb (n .reported .result) 10 (c .if1 .left) in
     rw (← n .reported .ensures, i)
 
 pub noted-spec : {M : Type 1} → statement M
