@@ -26,7 +26,7 @@ use Rattle.prediction.specs.Predictions.{isSoon, isLate}
 use Rattle.prediction.specs.State.{firstPrediction}
 use Rattle.prediction.specs.Sound.{isReady}
 use Rattle.prediction.specs.Outcome as outcome
-use Rattle.prediction.specs.Outcome.{groundsOf, answerIn, allAlong, allTold, written, ownFacts, allFacts, belowIn, stateAfter, reportsIn}
+use Rattle.prediction.specs.Outcome.{saysOf, groundsOf, answerIn, allAlong, allTold, written, ownFacts, allFacts, belowIn, stateAfter, reportsIn}
 use Rattle.prediction.specs.Reachable.{allowed, shownBy}
 use Rattle.prediction.specs.Cases.{Line, Result, smooth, after, resultOf, scenarios, conditions}
 
@@ -43,7 +43,7 @@ unfolding every any howMany whereIs without fill sameList isName inBytes sameNam
     reportIf tieNumber byPort each byCarrier differences followed isExpected equals carries newMap
     maps-rows.codesIn maps-rows.rowOf maps.answerIn maps.stateAfter maps-runs.reached
     carrierOf mayLeave only untilZero rowOf queue.answersIn queue.answerIn queue.stateAfter queue.goesIn queue.madeIn
-    next passed lastOf isSoon isLate firstPrediction isReady groundsOf answerIn outcome.told allAlong allTold written ownFacts allFacts
+    next passed lastOf isSoon isLate firstPrediction isReady saysOf groundsOf answerIn outcome.told allAlong allTold written ownFacts allFacts
     belowIn stateAfter reportsIn smooth after resultOf
 all-cases = refl
 

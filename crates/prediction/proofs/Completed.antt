@@ -21,7 +21,8 @@ use Rattle.queue.specs.Outcome as queue
 use Rattle.queue.proofs.Below.{base-facts}
 use Rattle.queue.proofs.SoundRuns as queue-runs
 use Rattle.prediction.specs.declared.prediction.Prediction.{Prediction}
-use Rattle.prediction.specs.Model.{Facts, completed, course, lastOf}
+use Rattle.prediction.specs.declared.prediction.Facts.{Facts}
+use Rattle.prediction.specs.Model.{completed, course, lastOf}
 use Rattle.prediction.specs.Predictions.{noPrediction}
 use Rattle.prediction.specs.State.{Predicted, baseOf, Timed, firstPrediction}
 use Rattle.prediction.specs.Sound.{sound}

@@ -125,7 +125,7 @@ module _ (s : State) (h : base-sound.sound s ≡ true) where
   }
 
 -- ── Every input of P5's layer ──
-started-there : (s : State) (i : Input) (q : List Request) → any (startedTo (see s i .port)) q ≡ true
+pub started-there : (s : State) (i : Input) (q : List Request) → any (startedTo (see s i .port)) q ≡ true
     → any (startedTo (narrow (i .port))) q ≡ true
 unfolding see
 started-there s i q e = e

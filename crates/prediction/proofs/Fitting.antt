@@ -11,7 +11,8 @@ use Rattle.records.specs.declared.carrier.Carrier.{Carrier}
 use Rattle.records.specs.Carriers.{atPort}
 use Rattle.rules.specs.State.{State}
 use Rattle.prediction.specs.declared.prediction.Prediction.{Prediction}
-use Rattle.prediction.specs.Model.{Facts, course, lastOf, waitingForCarrier, predicted, aborted, passed, next}
+use Rattle.prediction.specs.declared.prediction.Facts.{Facts}
+use Rattle.prediction.specs.Model.{course, lastOf, waitingForCarrier, predicted, aborted, passed, next}
 use Rattle.prediction.specs.Sound.{inRange, isReady, leftAtPort, notOverdue, fits, isNone}
 use Rattle.prediction.specs.Outcome.{along}
 use Rattle.prediction.proofs.Modelled.{ready-ends, stays-one, left-by-taken}

@@ -15,8 +15,10 @@ use Rattle.rules.specs.declared.report.Report.{Report}
 use Rattle.rules.specs.State.{State, recordOf}
 use Rattle.rules.specs.Seen.{see}
 use Rattle.prediction.specs.declared.prediction.Prediction.{Prediction}
-use Rattle.prediction.specs.Model.{Facts, Transition, transitions, course, waitingForCarrier}
-use Rattle.prediction.specs.Predictions.{noPrediction, Times, isSoon, onJudging}
+use Rattle.prediction.specs.declared.prediction.Facts.{Facts}
+use Rattle.prediction.specs.Model.{Transition, transitions, course, waitingForCarrier}
+use Rattle.prediction.specs.declared.prediction.Times.{Times}
+use Rattle.prediction.specs.Predictions.{noPrediction, isSoon, onJudging}
 use Rattle.prediction.specs.State.{Predicted, baseOf, Timed, isFixed}
 use Rattle.prediction.specs.Sound.{inRange, isReady, isNone, sound}
 use Rattle.prediction.specs.Outcome as outcome
@@ -105,7 +107,7 @@ module _ (s : Predicted) (i : Timed) where
       every-both inModel (outcome.gone s i ++ outcome.fresh s i ++ ownTold) _
       (every-both inModel (outcome.gone s i ++ outcome.fresh s i) ownTold
       (every-both inModel (outcome.gone s i) (outcome.fresh s i) (gone-model _ _)
-      (fresh-model (outcome.below s i .made && isFixed (baseOf s)) (see (outcome.after s i) (i .input) .name)))
+      (fresh-model (outcome.below s i .made && isFixed (baseOf s)) _))
       (own-model _ _ (named .state) _ (same-state (i .input .number) (outcome.timesThen s i) (i .time) named)))
       (all-steps (outcome.allFacts (i .input .number) (outcome.timesThen s i) (outcome.after s i)) (outcome.after s i .carriers)
       (outcome.second s i))

@@ -10,6 +10,8 @@ pub mod SoundRuns
 pub mod Placed
 pub mod Written
 pub mod Sounds
+pub mod SoundTools
 pub mod Hosted
 pub mod Completed
 pub mod Allowed
+pub mod Named

@@ -10,7 +10,8 @@ use borrow.Author.Tests.{eq-eqb}
 use Rattle.lists.specs.Lists.{any, every}
 use Rattle.lists.proofs.Tests.{every-at}
 use Rattle.lists.proofs.Bools.{clash, and-l, and-r, and-i, or-l, or-r}
-use Rattle.prediction.specs.Model.{Facts, Transition, transitions, next, passed, course, lastOf}
+use Rattle.prediction.specs.declared.prediction.Facts.{Facts}
+use Rattle.prediction.specs.Model.{Transition, transitions, next, passed, course, lastOf}
 use Rattle.prediction.specs.Model.{waitingForCarrier, waitingForPrediction, predicted, aborted, completed}
 
 -- ── Every step of a course is a transition whose condition holds ──
@@ -52,6 +53,10 @@ pub course-leads : (f : Facts) (s : ℕ) → stepsLead f s (course f s) ≡ true
 course-leads f s = passed-leads _ f s
 
 -- ── COMPLETED stays ──
+pub none-quiet : (f : Facts) → course f 0 ≡ []
+unfolding passed next
+none-quiet f = refl
+
 pub completed-stays : (f : Facts) → course f completed ≡ []
 unfolding passed next
 completed-stays f = refl
@@ -67,10 +72,10 @@ all-of g e false = and-r (g true) _ e
 abbrev facts : Bool → Bool → Bool → Bool → Bool → Bool → Facts
 facts a b c d e r = record { taken = a; unset = b; soon = c; late = d; impossible = e; ready = r }
 
-abbrev always : (Facts → Bool) → Bool
+abbrev pub always : (Facts → Bool) → Bool
 always P = allOf (λ a. allOf (λ b. allOf (λ c. allOf (λ d. allOf (λ e. allOf (λ r. P (facts a b c d e r)))))))
 
-always-holds : (P : Facts → Bool) → always P ≡ true → (f : Facts) → P f ≡ true
+pub always-holds : (P : Facts → Bool) → always P ≡ true → (f : Facts) → P f ≡ true
 always-holds P h f =
     all-of (λ r. P (facts (f .taken) (f .unset) (f .soon) (f .late) (f .impossible) r))
     (all-of (λ e. allOf (λ r. P (facts (f .taken) (f .unset) (f .soon) (f .late) e r)))
@@ -80,10 +85,10 @@ always-holds P h f =
     (all-of (λ a. allOf (λ b. allOf (λ c. allOf (λ d. allOf (λ e. allOf (λ r. P (facts a b c d e r))))))) h (f .taken))
     (f .unset)) (f .soon)) (f .late)) (f .impossible)) (f .ready)
 
-abbrev states : List ℕ
+abbrev pub states : List ℕ
 states = 0 ∷ 1 ∷ 2 ∷ 3 ∷ 4 ∷ 5 ∷ 6 ∷ []
 
-at-own : (s : ℕ) → s ≤ 6 → getD states s 0 ≡ s
+pub at-own : (s : ℕ) → s ≤ 6 → getD states s 0 ≡ s
 at-own zero b = refl
 at-own (suc zero) b = refl
 at-own (suc (suc zero)) b = refl

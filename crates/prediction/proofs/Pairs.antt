@@ -11,7 +11,7 @@ use Rattle.records.specs.declared.carrier.Carrier.{Carrier}
 use Rattle.records.specs.Carriers.{noCarrier}
 use Rattle.rules.specs.State.{State}
 use Rattle.prediction.specs.declared.prediction.Prediction.{Prediction}
-use Rattle.prediction.specs.Model.{Facts}
+use Rattle.prediction.specs.declared.prediction.Facts.{Facts}
 use Rattle.prediction.specs.Predictions.{noPrediction}
 use Rattle.prediction.specs.State.{isFixed}
 use Rattle.prediction.specs.Sound.{fits, isNone, eachFits}

@@ -32,7 +32,7 @@ use Rattle.queue.specs.Outcome as queue
 use Rattle.queue.proofs.Below.{base-facts}
 use Rattle.queue.proofs.SoundRuns as queue-runs
 use Rattle.prediction.specs.declared.prediction.Prediction.{Prediction}
-use Rattle.prediction.specs.Model.{Facts}
+use Rattle.prediction.specs.declared.prediction.Facts.{Facts}
 use Rattle.prediction.specs.Predictions.{noPrediction}
 use Rattle.prediction.specs.State.{Predicted, baseOf, Timed, isFixed, firstPrediction}
 use Rattle.prediction.specs.Sound.{isTime, isSpan, timesInRange, isReady, sound}
@@ -264,6 +264,10 @@ module _ (s : Predicted) (i : Timed) (h : sound s ≡ true) (a : answerIn s i �
   unfolding see carrierOf
   spot-is u = refl
 
+  spot-named : (eqb number 6 || eqb number 21) ≡ true → spot ≡ see then (i .input) .stands
+  unfolding outcome.saysOf
+  spot-named o = rw o
+
   not-timed : (eqb number 6 || eqb number 21) ≡ true → isTimed number ≡ false
   not-timed o = go (eqb number 6) refl o
     where
@@ -275,7 +279,7 @@ module _ (s : Predicted) (i : Timed) (h : sound s ≡ true) (a : answerIn s i �
       → atPort (recordOf then spot) ≡ true
   taken-there o f l =
       placed-there then facts-are f spot l
-      (ap expected (spot-is then) ∙ ap (λ u. expected (carrierOf u (inBytes (i .input .name)))) (then-is (not-timed o))
+      (ap (λ k. expected (recordOf then k)) (spot-named o) ∙ ap expected (spot-is then) ∙ ap (λ u. expected (carrierOf u (inBytes (i .input .name)))) (then-is (not-timed o))
       ∙ named-placed (not-timed o) o)
 
   abbrev here : Carrier

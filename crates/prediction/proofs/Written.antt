@@ -10,8 +10,10 @@ use Rattle.records.specs.declared.carrier.Carrier.{Carrier}
 use Rattle.records.specs.Carriers.{atPort}
 use Rattle.rules.specs.State.{State}
 use Rattle.prediction.specs.declared.prediction.Prediction.{Prediction}
-use Rattle.prediction.specs.Model.{Facts, waitingForCarrier}
-use Rattle.prediction.specs.Predictions.{withTp, withTe, Times, asItIs, onJudging}
+use Rattle.prediction.specs.declared.prediction.Facts.{Facts}
+use Rattle.prediction.specs.Model.{waitingForCarrier}
+use Rattle.prediction.specs.declared.prediction.Times.{Times}
+use Rattle.prediction.specs.Predictions.{withTp, withTe, asItIs, onJudging}
 use Rattle.prediction.specs.State.{isFixed}
 use Rattle.prediction.specs.Sound.{isTime, timeOrNone, inRange, isReady, leftAtPort, fits, isNone}
 use Rattle.prediction.specs.Outcome.{isTimed, along, cancels, written, ownFacts, allFacts}

@@ -7,7 +7,7 @@ use Rattle.rules.specs.declared.report.Report.{Report}
 use Rattle.rules.specs.Seen.{Input, inputOf}
 use Rattle.rules.specs.Run.{onPort, onName}
 use Rattle.rules.specs.Inputs.{Bind, CarrierNotification, CancelCarrierNotification, ProceedWithCarrier, CancelCarrier, LoadStart, LoadDone}
-use Rattle.rules.specs.Inputs.{IdRead, Open, SlotMap, AccessStart, AccessEnd, Close, UnloadStart, UnloadFail}
+use Rattle.rules.specs.Inputs.{IdRead, IdReadFailed, Open, SlotMap, AccessStart, AccessEnd, Close, UnloadStart, UnloadFail}
 use Rattle.rules.specs.Inputs.{A, B, A17, threes, unannounced, stored, agreed, accessed}
 use Rattle.prediction.specs.State.{Predicted, Timed, start}
 use Rattle.prediction.specs.Outcome.{answerIn, stateAfter, reportsIn}
@@ -163,6 +163,13 @@ conditions =
     ∷ told (plain (CarrierNotification A) ∷ []) (plain (CancelCarrierNotification A))
     (onName 5 A 1 0 ∷ onName 6 A 1 0 ∷ onName 7 A 1 0 ∷ eight 2 0 ∷ [])
     ∷ buffered [] (plain (CarrierNotification A)) 0 (onName 5 A 0 1 ∷ onName 6 A 0 1 ∷ onName 7 A 0 1 ∷ [])
+    -- nine reports, the most that there are: one is made and cancelled at once; one goes, and another is made
+    ∷ told (map plain (LoadStart 1 ∷ LoadDone 1 ∷ IdReadFailed 1 ∷ [])) (plain (CancelCarrier A 1))
+    (onPort 1 1 3 2 ∷ onPort 4 1 0 1 ∷ onName 5 A 0 4 ∷ onName 6 A 0 1 ∷ onName 7 A 0 1
+    ∷ eight 0 2 ∷ eight 2 3 ∷ eight 3 4 ∷ eight 4 6 ∷ [])
+    ∷ told (map plain (Bind 1 A ∷ LoadStart 1 ∷ LoadDone 1 ∷ [])) (plain (IdRead 1 B))
+    (onPort 4 1 1 1 ∷ onName 5 A 1 0 ∷ onName 5 B 0 2 ∷ onName 6 A 1 0 ∷ onName 6 B 0 1 ∷ onName 7 A 1 0 ∷ onName 7 B 0 1
+    ∷ eight 2 0 ∷ onName 8 B 0 2 ∷ [])
     -- 23 and 26: it comes into access, or is cancelled; the setting is 0
     ∷ told (map plain agreed) (plain (AccessStart A)) (onName 7 A 1 2 ∷ eight 2 3 ∷ [])
     ∷ unset (map plain agreed) (plain (AccessStart A)) (onName 7 A 1 2 ∷ eight 2 1 ∷ [])

@@ -7,7 +7,8 @@ use Rattle.lists.specs.Lists.{any}
 use Rattle.rules.specs.declared.report.Report.{Report}
 use Rattle.prediction.specs.declared.prediction.Prediction.{Prediction}
 use Rattle.prediction.specs.Model.{waitingForCarrier, waitingForPrediction, predicted, aborted, completed, disabled}
-use Rattle.prediction.specs.Predictions.{hasTp, Times, isSoon}
+use Rattle.prediction.specs.declared.prediction.Times.{Times}
+use Rattle.prediction.specs.Predictions.{hasTp, isSoon}
 
 -- ── Every report of model 8 is one of document 000's transitions, or of a record made or gone ──
 pub record Step : Type 0 where

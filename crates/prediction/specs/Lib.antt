@@ -8,3 +8,4 @@ pub mod Projection
 pub mod Promise
 pub mod Host
 pub mod Reachable
+pub mod Named

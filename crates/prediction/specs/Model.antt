@@ -3,6 +3,7 @@ use Prim.Native.Nat.{ℕ, zero, suc}
 use mathlib.Core.Bool.{Bool, not, cond, _&&_, _||_}
 use mathlib.Core.List.{List, [], _∷_}
 use lib.Dec.{eqb}
+use Rattle.prediction.specs.declared.prediction.Facts.{Facts}
 
 -- ── States ──
 abbrev pub disabled : ℕ
@@ -22,21 +23,6 @@ aborted = 5
 
 abbrev pub completed : ℕ
 completed = 6
-
--- ── What a transition asks ──
-pub record Facts : Type 0 where
-  -- the carrier comes into access, or is cancelled
-  pub taken : Bool
-  -- the setting time is 0
-  pub unset : Bool
-  -- Tp minus now is at most the setting time
-  pub soon : Bool
-  -- the timeout isn't 0, and Te is at least Tp plus timeout
-  pub late : Bool
-  -- no prediction is possible
-  pub impossible : Bool
-  -- the carrier is ready to unload: its port is READY TO UNLOAD
-  pub ready : Bool
 
 -- ── Transitions ──
 pub record Transition : Type 0 where

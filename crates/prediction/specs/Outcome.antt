@@ -1,29 +1,36 @@
 -- What an input gives: the answer, the state that follows, and the reports of model 8 in turn.
-use Prim.Native.Nat.{ℕ}
-use mathlib.Core.Bool.{Bool, false, not, cond, _&&_}
+use Prim.Native.Nat.{ℕ, _-_}
+use mathlib.Core.Bool.{Bool, false, not, cond, _&&_, _||_}
 use mathlib.Core.List.{List, [], _∷_, _++_}
 use lib.ListN.{length, getD, set}
 use lib.Dec.{eqb, leb, ltb}
 use Rattle.records.specs.declared.name.Name.{Name}
 use Rattle.records.specs.declared.carrier.Carrier.{Carrier}
 use Rattle.rules.specs.declared.report.Report.{Report}
+use Rattle.rules.specs.declared.report.Reports.{Reports}
 use Rattle.rules.specs.declared.row.Seen.{Seen}
 use Rattle.rules.specs.State.{State, recordOf}
 use Rattle.rules.specs.Seen.{Input, see}
 use Rattle.rules.specs.Row.{Ground, when, unless, lowest}
-use Rattle.rules.specs.Reports.{differences}
+use Rattle.rules.specs.Reports.{listed, noReports, differences}
 use Rattle.follow.specs.Follow.{followed}
 use Rattle.queue.specs.State as queue-state
 use Rattle.queue.specs.Outcome as queue
 use Rattle.prediction.specs.declared.prediction.Prediction.{Prediction}
-use Rattle.prediction.specs.Model.{Facts, waitingForCarrier, waitingForPrediction, course, lastOf}
-use Rattle.prediction.specs.Predictions.{noPrediction, inState, withTp, withTe, hasTp, Times, asItIs, onAccess, onCancel, onJudging, onNone}
-use Rattle.prediction.specs.State.{Predicted, baseOf, Timed, isFixed, firstPrediction}
+use Rattle.prediction.specs.declared.prediction.Facts.{Facts}
+use Rattle.prediction.specs.Model.{waitingForCarrier, waitingForPrediction, course, lastOf}
+use Rattle.prediction.specs.declared.prediction.Times.{Times}
+use Rattle.prediction.specs.Predictions.{noPrediction, inState, withTp, withTe, hasTp, asItIs, onAccess, onCancel, onJudging, onNone}
+use Rattle.prediction.specs.State.{Predicted, baseOf, PredictedTool, stateOf, inTool, Timed, isFixed, firstPrediction}
 use Rattle.prediction.specs.Sound.{isTime, isReady}
 
 -- ── The four inputs that the request adds ──
 abbrev pub isTimed : ℕ → Bool
 isTimed n = leb 31 n && leb n 34
+
+-- the rows that say something of the carrier which they name: 6 and 21, and 32 to 34
+unfoldable pub saysOf : ℕ → Bool
+saysOf n = eqb n 6 || eqb n 21 || (leb 32 n && leb n 34)
 
 -- what is predicted of the carrier that an input names
 abbrev pub named : Predicted → Seen → Prediction
@@ -152,9 +159,9 @@ module _ (s : Predicted) (i : Timed) where
   abbrev pub first : List Prediction
   first = followed (below .goes) (below .made) (firstPrediction (baseOf s)) (s .predictions)
 
-  -- the carrier that is named, where it stands afterwards
+  -- the carrier that is named, where it stands afterwards; other rows name nobody
   abbrev pub spot : ℕ
-  spot = see after (i .input) .stands
+  spot = cond (saysOf number) (see after (i .input) .stands) (length (after .carriers))
 
   abbrev pub own : Prediction
   own = written number timesThen (i .time) (getD first spot noPrediction)
@@ -176,8 +183,9 @@ module _ (s : Predicted) (i : Timed) where
   gone = told (recordOf (baseOf s) (below .goes) .name) (getD (s .predictions) (below .goes) noPrediction .state)
       (cond (eqb (getD (s .predictions) (below .goes) noPrediction .state) 0) [] (0 ∷ []))
 
+  -- the record that is made stands last
   abbrev pub fresh : List Report
-  fresh = cond (below .made && isFixed (baseOf s)) (told (see after (i .input) .name) 0 (waitingForCarrier ∷ [])) []
+  fresh = cond (below .made && isFixed (baseOf s)) (told (recordOf after (length (after .carriers) - 1) .name) 0 (waitingForCarrier ∷ [])) []
 
   abbrev pub eight : List Report
   eight = gone ++ fresh ++ told (recordOf after spot .name) (getD first spot noPrediction .state) (ownMoved .passed)
@@ -189,6 +197,26 @@ module _ (s : Predicted) (i : Timed) where
   -- those of P5's layer, which are the differences, and then model 8's
   unfoldable pub reportsIn : List Report
   reportsIn = cond (eqb (answerIn s i) 0) (differences (baseOf s) after ++ eight) []
+
+-- ── In a tool ──
+pub record Given : Type 0 where
+  pub tool : PredictedTool
+  pub answer : ℕ
+  pub reports : Reports
+
+-- Refused: nothing changes, and nothing is reported.
+abbrev pub refused : PredictedTool → ℕ → Given
+refused t n = record { tool = t; answer = n; reports = noReports }
+
+abbrev pub accepted : Predicted → List Report → Given
+accepted after reports = record { tool = inTool after; answer = 0; reports = listed reports }
+
+-- an input to a tool that is known to be sound
+unfoldable pub givenIn : PredictedTool → Timed → Given
+givenIn t i =
+    cond (eqb (answerIn (stateOf t) i) 0)
+    (accepted (stateAfter (stateOf t) i) (reportsIn (stateOf t) i))
+    (refused t (answerIn (stateOf t) i))
 
 -- The state that a run has reached, the latest input first.
 unfoldable pub reached : Predicted → List Timed → Predicted

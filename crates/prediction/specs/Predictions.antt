@@ -3,7 +3,9 @@ use Prim.Native.Nat.{ℕ, _+_}
 use mathlib.Core.Bool.{Bool, true, false, not, cond, _&&_}
 use lib.Dec.{eqb, leb}
 use Rattle.prediction.specs.declared.prediction.Prediction.{Prediction}
-use Rattle.prediction.specs.Model.{Facts, waitingForCarrier}
+use Rattle.prediction.specs.declared.prediction.Times.{Times}
+use Rattle.prediction.specs.declared.prediction.Facts.{Facts}
+use Rattle.prediction.specs.Model.{waitingForCarrier}
 
 -- ── A prediction ──
 -- none: what a tool with a buffer keeps
@@ -30,12 +32,6 @@ abbrev pub hasTe : Prediction → Bool
 hasTe p = eqb (p .estimated) 1
 
 -- ── Time ──
--- the clock, and what set-up took: setting time and timeout
-pub record Times : Type 0 where
-  pub now : ℕ
-  pub setting : ℕ
-  pub timeout : ℕ
-
 -- Tp minus now is at most the setting time
 unfoldable pub isSoon : Times → Prediction → Bool
 isSoon t p = leb (p .tp) (t .now + t .setting)

@@ -2,8 +2,9 @@
 use Prim.Native.Nat.{ℕ, zero}
 use mathlib.Core.Bool.{Bool, true, false, not, cond, _&&_, _||_}
 use mathlib.Core.List.{List, [], _∷_}
+use lib.ListN.{drop}
 use lib.Dec.{eqb, leb, ltb}
-use Rattle.lists.specs.Lists.{between}
+use Rattle.lists.specs.Lists.{between, every}
 use Rattle.records.specs.declared.carrier.Carrier.{Carrier}
 use Rattle.records.specs.Ports.{readyToUnload}
 use Rattle.records.specs.Carriers.{atPort}
@@ -11,8 +12,8 @@ use Rattle.rules.specs.State.{State, portOf}
 use Rattle.queue.specs.Sound as queue
 use Rattle.prediction.specs.declared.prediction.Prediction.{Prediction}
 use Rattle.prediction.specs.Model.{waitingForCarrier, predicted, aborted}
-use Rattle.prediction.specs.Predictions.{Times}
-use Rattle.prediction.specs.State.{Predicted, baseOf, isFixed}
+use Rattle.prediction.specs.declared.prediction.Times.{Times}
+use Rattle.prediction.specs.State.{Predicted, baseOf, PredictedTool, countOf, stateOf, isFixed}
 
 -- seconds that a clock shows, and those that set-up takes
 abbrev pub isTime : ℕ → Bool
@@ -59,3 +60,7 @@ eachFits s (c ∷ cs) (p ∷ ps) = cond (isFixed s) (fits s c p) (isNone p) && e
 
 unfoldable pub sound : Predicted → Bool
 sound s = queue.sound (s .queued) && timesInRange (s .times) && eachFits (baseOf s) (baseOf s .carriers) (s .predictions)
+
+-- P5's tool is sound, what is unused is zero, and what is used is sound.
+unfoldable pub soundTool : PredictedTool → Bool
+soundTool t = queue.soundTool (t .queued) && every isNone (drop (countOf t) (t .predictions)) && sound (stateOf t)
