@@ -4,6 +4,7 @@ use mathlib.Core.Path.{refl}
 use mathlib.Core.Bool.{Bool, true, false, cond}
 use mathlib.Core.List.{List}
 use lib.Dec.{eqb}
+use Rattle.prediction.specs.State.{timed}
 use Rattle.secs.specs.Request.{requestIn}
 use Rattle.tool.specs.Whole.{Whole, refused}
 use Rattle.tool.proofs.Refuses.{Refuses, refuses}
@@ -14,6 +15,6 @@ pub message-refuses : (t : Whole) (m : List ℕ) → Refuses t (bridged t m)
 unfolding bridged outcome
 message-refuses t m = go (eqb (requestIn m .refusal) 0)
   where
-    go : (w : Bool) → Refuses t (cond w (outcome t (requestIn m .input)) (refused t (requestIn m .refusal)))
-    go true n = refuses t (shown (requestIn m .input)) n
+    go : (w : Bool) → Refuses t (cond w (outcome t (timed (requestIn m .input) 0 0)) (refused t (requestIn m .refusal)))
+    go true n = refuses t (shown (timed (requestIn m .input) 0 0)) n
     go false n = (refl, refl)

@@ -38,5 +38,7 @@ pub fn bridge_step(
         0,
         &message[from..to],
         &codes[..coded],
+        0,
+        0,
     )
 }

@@ -9,22 +9,22 @@ use lib.Dec.{eqb, leb}
 use borrow.Author.Tests.{eqb-true, eqb-false, leb-true}
 use Rattle.lists.proofs.Bools.{and-l, and-r, not-true}
 use Rattle.records.specs.Names.{isName}
-use Rattle.rules.specs.Seen.{Input}
-use Rattle.rules.specs.Named.{nameMissing, called}
+use Rattle.rules.specs.Named.{nameMissing}
 use Rattle.names.specs.Check as check
 use Rattle.names.specs.Check.{shortened}
 use Rattle.names.proofs.Given.{seen-name, refused-padded, refused-stays, shortened-padded}
-use Rattle.queue.specs.Named.{takesName}
-use Rattle.queue.proofs.Named.{given-ignores, turned-away}
+use Rattle.prediction.specs.State.{Timed}
+use Rattle.prediction.specs.Named.{takesName, called}
+use Rattle.prediction.proofs.Named.{given-ignores, turned-away}
 use Rattle.tool.specs.Whole as tool
 use Rattle.tool.specs.Whole.{Whole, soundWhole, around, refused}
 use Rattle.tool.proofs.Tested.{when-sound, when-not}
 use Rattle.door.specs.Door.{outcome, padded, mayPad, toolAfter, outcomes, paddedRun, mayPadRun}
 
 -- ── The whole tool ──
-module _ (t : Whole) (i : Input) where
+module _ (t : Whole) (i : Timed) where
   -- a row that takes no name ignores the one that it is sent
-  whole-ignores : (name : List ℕ) → takesName (i .number) ≡ false → tool.outcome t (called name i) ≡ tool.outcome t i
+  whole-ignores : (name : List ℕ) → takesName (i .input .number) ≡ false → tool.outcome t (called name i) ≡ tool.outcome t i
   whole-ignores name f = go (soundWhole t) refl
     where
       go : (w : Bool) → soundWhole t ≡ w → tool.outcome t (called name i) ≡ tool.outcome t i
@@ -32,7 +32,7 @@ module _ (t : Whole) (i : Input) where
       go false h = sym (when-not t (called name i) h) ∙ when-not t i h
 
   -- a row that takes a name refuses what is none with 1
-  pub whole-refuses : isName (i .name) ≡ false → takesName (i .number) ≡ true → nameMissing i ≡ false → tool.outcome t i ≡ refused t 1
+  pub whole-refuses : isName (i .input .name) ≡ false → takesName (i .input .number) ≡ true → nameMissing (i .input) ≡ false → tool.outcome t i ≡ refused t 1
   whole-refuses n k m = go (soundWhole t) refl
     where
       go : (w : Bool) → soundWhole t ≡ w → tool.outcome t i ≡ refused t 1
@@ -41,59 +41,59 @@ module _ (t : Whole) (i : Input) where
 
 -- ── The door ──
 -- a text that the check refuses is refused with 1 by every row that takes a name
-pub bad-name-refused : (t : Whole) (i : Input) → takesName (i .number) ≡ true → nameMissing i ≡ false → check.refused (i .name) ≡ true
+pub bad-name-refused : (t : Whole) (i : Timed) → takesName (i .input .number) ≡ true → nameMissing (i .input) ≡ false → check.refused (i .input .name) ≡ true
     → outcome t i ≡ refused t 1
 unfolding outcome
 bad-name-refused t i k m e =
-    let s = refused-stays (i .name) e in
-    rw s (whole-refuses t i (rw s at (seen-name (i .name) ∙ ap not e)) k m)
+    let s = refused-stays (i .input .name) e in
+    rw s (whole-refuses t i (rw s at (seen-name (i .input .name) ∙ ap not e)) k m)
 
 -- a name that is given is given with blanks after it, too
-still-given : (i : Input) (n : ℕ) → nameMissing i ≡ false → nameMissing (padded n i) ≡ false
+still-given : (i : Timed) (n : ℕ) → nameMissing (i .input) ≡ false → nameMissing (padded n i .input) ≡ false
 unfolding nameMissing
-still-given i n = go (eqb (i .number) 2)
+still-given i n = go (eqb (i .input .number) 2)
   where
     blanks : List ℕ
     blanks = replicate n 0x20
 
-    longer : (z w : Bool) → eqb (length (i .name)) 0 ≡ z → eqb (length (i .name ++ blanks)) 0 ≡ w → z ≡ false → w ≡ false
+    longer : (z w : Bool) → eqb (length (i .input .name)) 0 ≡ z → eqb (length (i .input .name ++ blanks)) 0 ≡ w → z ≡ false → w ≡ false
     longer z true e f h =
-        let l = length-append (i .name) blanks in
-        let k : length (i .name ++ blanks) ≡ 0 = eqb-true _ 0 f in
-        absurd (eqb-false (length (i .name)) 0 (e ∙ h) (omega arith))
+        let l = length-append (i .input .name) blanks in
+        let k : length (i .input .name ++ blanks) ≡ 0 = eqb-true _ 0 f in
+        absurd (eqb-false (length (i .input .name)) 0 (e ∙ h) (omega arith))
     longer z false e f h = refl
 
-    go : (b : Bool) → (b && eqb (length (i .name)) 0) ≡ false → (b && eqb (length (i .name ++ blanks)) 0) ≡ false
+    go : (b : Bool) → (b && eqb (length (i .input .name)) 0) ≡ false → (b && eqb (length (i .input .name ++ blanks)) 0) ≡ false
     go true h = longer _ _ refl refl h
     go false h = refl
 
-module _ (t : Whole) (i : Input) (n : ℕ) where
-  short-enough : length (i .name) + n ≤ 32 → nameMissing i ≡ false → outcome t (padded n i) ≡ outcome t i
+module _ (t : Whole) (i : Timed) (n : ℕ) where
+  short-enough : length (i .input .name) + n ≤ 32 → nameMissing (i .input) ≡ false → outcome t (padded n i) ≡ outcome t i
   unfolding outcome
-  short-enough l m = go (takesName (i .number)) refl (check.refused (i .name)) refl
+  short-enough l m = go (takesName (i .input .number)) refl (check.refused (i .input .name)) refl
     where
       text : List ℕ
-      text = i .name ++ replicate n 0x20
+      text = i .input .name ++ replicate n 0x20
 
-      go : (k : Bool) → takesName (i .number) ≡ k → (w : Bool) → check.refused (i .name) ≡ w → outcome t (padded n i) ≡ outcome t i
-      go false f w e = whole-ignores t i (shortened text) f ∙ sym (whole-ignores t i (shortened (i .name)) f)
+      go : (k : Bool) → takesName (i .input .number) ≡ k → (w : Bool) → check.refused (i .input .name) ≡ w → outcome t (padded n i) ≡ outcome t i
+      go false f w e = whole-ignores t i (shortened text) f ∙ sym (whole-ignores t i (shortened (i .input .name)) f)
       go true f true e =
-          bad-name-refused t (padded n i) f (still-given i n m) (refused-padded (i .name) n l ∙ e) ∙ sym (bad-name-refused t i f m e)
-      go true f false e = ap (λ name. tool.outcome t (called name i)) (shortened-padded (i .name) n l e)
+          bad-name-refused t (padded n i) f (still-given i n m) (refused-padded (i .input .name) n l ∙ e) ∙ sym (bad-name-refused t i f m e)
+      go true f false e = ap (λ name. tool.outcome t (called name i)) (shortened-padded (i .input .name) n l e)
 
   pub same-padded : mayPad n i ≡ true → outcome t (padded n i) ≡ outcome t i
   unfolding mayPad
   same-padded h = go (eqb n 0) refl h
     where
-      go : (z : Bool) → eqb n 0 ≡ z → (z || (leb (length (i .name) + n) 32 && not (nameMissing i))) ≡ true
+      go : (z : Bool) → eqb n 0 ≡ z → (z || (leb (length (i .input .name) + n) 32 && not (nameMissing (i .input)))) ≡ true
           → outcome t (padded n i) ≡ outcome t i
-      go true e h = rw (eqb-true n 0 e, append-nil (i .name))
+      go true e h = rw (eqb-true n 0 e, append-nil (i .input .name))
       go false e h =
-          short-enough (leb-true _ 32 (and-l (leb (length (i .name) + n) 32) _ h)) (not-true _ (and-r (leb (length (i .name) + n) 32) _ h))
+          short-enough (leb-true _ 32 (and-l (leb (length (i .input .name) + n) 32) _ h)) (not-true _ (and-r (leb (length (i .input .name) + n) 32) _ h))
 
 -- ── Runs ──
 -- neither the tools, nor the answers, nor the reports of a run
-pub padded-run : (t : Whole) (pads : List ℕ) (run : List Input) → mayPadRun pads run ≡ true
+pub padded-run : (t : Whole) (pads : List ℕ) (run : List Timed) → mayPadRun pads run ≡ true
     → outcomes t (paddedRun pads run) ≡ outcomes t run
 unfolding outcomes paddedRun mayPadRun
 padded-run t [] run h = refl

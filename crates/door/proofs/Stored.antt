@@ -12,11 +12,12 @@ use Rattle.records.specs.Names.{graphic, headOr0, zeroEnded, holdsName}
 use Rattle.rules.specs.State.{recordOf}
 use Rattle.rules.specs.Promise.{Live}
 use Rattle.names.specs.Check.{isBlank}
-use Rattle.queue.specs.State.{baseOf, stateOf}
-use Rattle.queue.specs.Sound.{soundTool}
 use Rattle.queue.proofs.Below.{base-facts}
 use Rattle.queue.proofs.SoundRuns.{sound-parts}
-use Rattle.queue.proofs.SoundTools.{tool-sound}
+use Rattle.prediction.specs.State.{baseOf, stateOf}
+use Rattle.prediction.specs.Sound.{soundTool}
+use Rattle.prediction.proofs.Sounds.{queue-part}
+use Rattle.prediction.proofs.SoundTools.{tool-sound}
 use Rattle.tool.specs.Whole.{Whole, soundWhole}
 
 not-blank : (b z : ℕ) → ((eqb b 0 && eqb z 0) || graphic b) ≡ true → isBlank b ≡ false
@@ -36,5 +37,5 @@ pub stored-plain : (t : Whole) → soundWhole t ≡ true → (k : ℕ) → Live 
 unfolding soundWhole holdsName
 stored-plain t h k l =
     let s = stateOf (t .layered) in
-    let p = sound-parts s (tool-sound (t .layered) (and-l (soundTool (t .layered)) _ h)) in
-    none-blank _ (and-l _ _ (base-facts (s .mapped) (p .mapped) .records k l .named))
+    let p = sound-parts (s .queued) (queue-part s (tool-sound (t .layered) (and-l (soundTool (t .layered)) _ h))) in
+    none-blank _ (and-l _ _ (base-facts (s .queued .mapped) (p .mapped) .records k l .named))

@@ -8,24 +8,29 @@ use lib.Dec.{eqb}
 use Rattle.rules.specs.Seen.{Input, inputOf}
 use Rattle.rules.specs.Inputs.{Bind, CancelBind, CarrierNotification, CancelCarrierNotification, CarrierOut, LoadStart, LoadDone, IdRead}
 use Rattle.rules.specs.Inputs.{MoveIn, Open}
-use Rattle.queue.specs.State.{start}
-use Rattle.queue.specs.Outcome.{answerIn}
-use Rattle.queue.specs.Cases.{CancelCarrierOut, smooth, after}
+use Rattle.rules.specs.Inputs.{A, accessed}
+use Rattle.queue.specs.Cases.{CancelCarrierOut}
+use Rattle.prediction.specs.State.{Timed, timed, start}
+use Rattle.prediction.specs.Outcome.{answerIn}
+use Rattle.prediction.specs.Cases.{plain, PredictedTime, Estimate, NoPrediction, smooth, after}
 use Rattle.door.specs.Door.{shown, mayPadRun}
 
 -- A run of inputs that are accepted, and one more with its answer.
 pub record Case : Type 0 where
-  pub before : List Input
-  pub input : Input
+  pub before : List Timed
+  pub input : Timed
   pub answer : ℕ
 
-abbrev case : List Input → Input → ℕ → Case
-case before input answer = record { before = before; input = input; answer = answer }
+abbrev timedCase : List Timed → Timed → ℕ → Case
+timedCase before input answer = record { before = before; input = input; answer = answer }
 
--- one port, and so many places
+abbrev case : List Input → Input → ℕ → Case
+case before input answer = timedCase (map plain before) (plain input) answer
+
+-- one port, so many places, and a minute before a carrier is ready
 unfoldable pub holds : ℕ → Case → Bool
-holds places c = smooth (start 1 places) (map shown (c .before))
-    && eqb (answerIn (after (start 1 places) (map shown (c .before))) (shown (c .input))) (c .answer)
+holds places c = smooth (start 1 places 60 0) (map shown (c .before))
+    && eqb (answerIn (after (start 1 places 60 0) (map shown (c .before))) (shown (c .input))) (c .answer)
 
 abbrev AB : List ℕ
 AB = 0x41 ∷ 0x42 ∷ []
@@ -61,6 +66,23 @@ cases =
     ∷ case [] (inputOf 13 1 0 (replicate 40 0) []) 0
     ∷ []
 
+-- A is IN ACCESS at port 1: 32 to 34 take the name that remains; 31 ignores it, however bad
+abbrev inAccess : List Timed
+inAccess = map plain accessed
+
+abbrev pub timedCases : List Case
+timedCases =
+    timedCase inAccess (PredictedTime 5 (A ++ blanks 3) 9) 0
+    ∷ timedCase inAccess (PredictedTime 5 (blanks 1 ++ A) 9) 1
+    ∷ timedCase inAccess (PredictedTime 5 (blanks 1) 9) 1
+    ∷ timedCase inAccess (NoPrediction 5 (A ++ blanks 31)) 0
+    ∷ timedCase inAccess (NoPrediction 5 (A ++ blanks 32)) 1
+    ∷ timedCase (inAccess ++ PredictedTime 5 (A ++ blanks 3) 90 ∷ []) (Estimate 6 A 99) 0
+    ∷ timedCase (inAccess ++ PredictedTime 5 A 90 ∷ []) (Estimate 6 (A ++ blanks 1) 99) 0
+    ∷ timedCase inAccess (timed (inputOf 31 0 0 (replicate 40 0) []) 5 0) 0
+    ∷ timedCase inAccess (timed (inputOf 31 0 0 (blanks 1) []) 5 0) 0
+    ∷ []
+
 -- with a place in the buffer: AB is moved there and queued
 abbrev queued : List ℕ → List Input
 queued name = Bind 1 AB ∷ arrives AB ++ MoveIn 1 1 ∷ CarrierOut name 1 ∷ []
@@ -81,11 +103,11 @@ queueCases =
 -- ── What may be padded: any name within 32 bytes, a bad one too, but none that is missing ──
 pub record Pads : Type 0 where
   pub blanks : List ℕ
-  pub run : List Input
+  pub run : List Timed
   pub may : Bool
 
 abbrev pads : List ℕ → List Input → Bool → Pads
-pads blanks run may = record { blanks = blanks; run = run; may = may }
+pads blanks run may = record { blanks = blanks; run = map plain run; may = may }
 
 unfoldable pub padsHold : Pads → Bool
 padsHold p = cond (p .may) (mayPadRun (p .blanks) (p .run)) (not (mayPadRun (p .blanks) (p .run)))

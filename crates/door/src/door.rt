@@ -2,6 +2,7 @@
 ghost use mathlib.Core.Path.{_≡_};
 ghost use Rattle.rules.specs.Seen.{inputOf};
 ghost use Rattle.image.specs.Image.{reportsFrom};
+ghost use Rattle.prediction.specs.State.{timed};
 ghost use Rattle.tool.specs.Whole.{wholeIn};
 ghost use Rattle.door.specs.Door.{outcome};
 use follow::blocks::BLOCKS;
@@ -17,14 +18,16 @@ pub fn door_step(
     value: u32,
     name: &[u8],
     codes: &[u8],
+    clock: u32,
+    time: u32,
 ) -> u8
     ensures { λ r. ⌜ wholeIn (now (m .exit)) ≡ outcome (wholeIn (now (m .entry)))
-        (inputOf number port value (now (name .entry)) (now (codes .entry))) .tool ⌝ }
+        (timed (inputOf number port value (now (name .entry)) (now (codes .entry))) clock time) .tool ⌝ }
     ensures { λ r. ⌜ reportsFrom (now (o .exit)) ≡ outcome (wholeIn (now (m .entry)))
-        (inputOf number port value (now (name .entry)) (now (codes .entry))) .reports ⌝ }
+        (timed (inputOf number port value (now (name .entry)) (now (codes .entry))) clock time) .reports ⌝ }
     ensures { λ r. ⌜ r ≡ outcome (wholeIn (now (m .entry)))
-        (inputOf number port value (now (name .entry)) (now (codes .entry))) .answer ⌝ }
+        (timed (inputOf number port value (now (name .entry)) (now (codes .entry))) clock time) .answer ⌝ }
 {
     let n = shortened_length(name);
-    whole_step(m, o, number, port, value, &name[..n], codes)
+    whole_step(m, o, number, port, value, &name[..n], codes, clock, time)
 }

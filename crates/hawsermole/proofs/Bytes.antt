@@ -5,7 +5,7 @@ use mathlib.Core.Logic.{_≢_}
 use mathlib.Core.Bool.{true}
 use mathlib.Core.List.{List}
 use lib.ListN.{replicate}
-use Rattle.rules.specs.Seen.{Input}
+use Rattle.prediction.specs.State.{Timed}
 use Rattle.image.proofs.Only.{reported-byte}
 use Rattle.image.proofs.Reported.{none-reported}
 use Rattle.tool.specs.Whole.{wholeIn}
@@ -15,71 +15,71 @@ use Rattle.door.specs.Door.{shown, outcome, padded, mayPad}
 use Rattle.door.proofs.Padded.{same-padded}
 use Rattle.bridge.proofs.Refuses.{message-refuses}
 use Rattle.bridge.proofs.Exchanged.{exchange-refuses}
-use Rattle.hawsermole.specs.Calls.{SetUpCall, StepCall, SecsCall, ExchangeCall, SameBytes, SameTool}
+use Rattle.hawsermole.specs.Calls.{SetUpCall, StepCall, SecsCall, ExchangeCall, OfBytes, SameBytes, SameTool}
 
-same-tool : (a b : List (List ℕ)) → wholeIn a ≡ wholeIn b → SameTool a b
-same-tool a b e = (first-bytes a b e, second-bytes a b e)
+same-tool : (a b : List (List ℕ)) → OfBytes a → OfBytes b → wholeIn a ≡ wholeIn b → SameTool a b
+same-tool a b f g e = (first-bytes a b e, second-bytes a b f g e)
 
 -- A refused input leaves every byte of the tool as it was, and a report list of zeros.
-pub refused-leaves : (before : List (List ℕ)) (i : Input) (r : ℕ) (after : List (List ℕ)) (reports : List ℕ)
-    → StepCall before i r after reports → r ≢ 0
-    → SameTool after before × SameBytes 141 reports (replicate 141 0)
+pub refused-leaves : (before : List (List ℕ)) (i : Timed) (r : ℕ) (after : List (List ℕ)) (reports : List ℕ)
+    → OfBytes before → OfBytes after → StepCall before i r after reports → r ≢ 0
+    → SameTool after before × SameBytes 201 reports (replicate 201 0)
 unfolding outcome
-refused-leaves before i r after reports s n =
+refused-leaves before i r after reports f g s n =
     let o = refuses (wholeIn before) (shown i) (λ z. n (s .answered ∙ z)) in
-    (same-tool after before (s .tool ∙ o .0), reported-byte reports (replicate 141 0) (s .told ∙ o .1 ∙ sym none-reported))
+    (same-tool after before g f (s .tool ∙ o .0), reported-byte reports (replicate 201 0) (s .told ∙ o .1 ∙ sym none-reported))
 
 -- And so does a message that is refused, by the reader or by the tool.
 pub message-leaves : (before : List (List ℕ)) (m : List ℕ) (r : ℕ) (after : List (List ℕ)) (reports : List ℕ) (items : ℕ)
-    → SecsCall before m r after reports items → r ≢ 0
-    → SameTool after before × SameBytes 141 reports (replicate 141 0)
-message-leaves before m r after reports items s n =
+    → OfBytes before → OfBytes after → SecsCall before m r after reports items → r ≢ 0
+    → SameTool after before × SameBytes 201 reports (replicate 201 0)
+message-leaves before m r after reports items f g s n =
     let o = message-refuses (wholeIn before) m (λ z. n (s .answered ∙ z)) in
-    (same-tool after before (s .tool ∙ o .0), reported-byte reports (replicate 141 0) (s .told ∙ o .1 ∙ sym none-reported))
+    (same-tool after before g f (s .tool ∙ o .0), reported-byte reports (replicate 201 0) (s .told ∙ o .1 ∙ sym none-reported))
 
 -- And so does an exchange, which is also refused with 14.
 pub exchange-leaves : (before : List (List ℕ)) (m room : List ℕ) (r : ℕ) (after : List (List ℕ)) (reports : List ℕ) (items : ℕ)
     (left : List ℕ) (length : ℕ)
-    → ExchangeCall before m room r after reports items left length → r ≢ 0
-    → SameTool after before × SameBytes 141 reports (replicate 141 0)
-exchange-leaves before m room r after reports items left length s n =
+    → OfBytes before → OfBytes after → ExchangeCall before m room r after reports items left length → r ≢ 0
+    → SameTool after before × SameBytes 201 reports (replicate 201 0)
+exchange-leaves before m room r after reports items left length f g s n =
     let o = exchange-refuses (wholeIn before) m room (λ z. n (s .answered ∙ z)) in
-    (same-tool after before (s .tool ∙ o .0), reported-byte reports (replicate 141 0) (s .told ∙ o .1 ∙ sym none-reported))
+    (same-tool after before g f (s .tool ∙ o .0), reported-byte reports (replicate 201 0) (s .told ∙ o .1 ∙ sym none-reported))
 
 -- Two calls that meet the same bytes with the same input give the same answer, and leave the same bytes and the same report list.
-pub same-again : (before : List (List ℕ)) (i : Input) (r r′ : ℕ) (after after′ : List (List ℕ)) (reports reports′ : List ℕ)
-    → StepCall before i r after reports → StepCall before i r′ after′ reports′
-    → (r ≡ r′) × SameTool after after′ × SameBytes 141 reports reports′
-same-again before i r r′ after after′ reports reports′ s t = (
+pub same-again : (before : List (List ℕ)) (i : Timed) (r r′ : ℕ) (after after′ : List (List ℕ)) (reports reports′ : List ℕ)
+    → OfBytes after → OfBytes after′ → StepCall before i r after reports → StepCall before i r′ after′ reports′
+    → (r ≡ r′) × SameTool after after′ × SameBytes 201 reports reports′
+same-again before i r r′ after after′ reports reports′ f g s t = (
   s .answered ∙ sym (t .answered),
-  same-tool after after′ (s .tool ∙ sym (t .tool)),
+  same-tool after after′ f g (s .tool ∙ sym (t .tool)),
   reported-byte reports reports′ (s .told ∙ sym (t .told)),
 )
 
 -- And so where the name of one is padded, and the other's plain.
-pub padded-again : (before : List (List ℕ)) (i : Input) (n r r′ : ℕ) (after after′ : List (List ℕ)) (reports reports′ : List ℕ)
-    → mayPad n i ≡ true → StepCall before i r after reports → StepCall before (padded n i) r′ after′ reports′
-    → (r ≡ r′) × SameTool after after′ × SameBytes 141 reports reports′
-padded-again before i n r r′ after after′ reports reports′ m s t =
+pub padded-again : (before : List (List ℕ)) (i : Timed) (n r r′ : ℕ) (after after′ : List (List ℕ)) (reports reports′ : List ℕ)
+    → OfBytes after → OfBytes after′ → mayPad n i ≡ true → StepCall before i r after reports → StepCall before (padded n i) r′ after′ reports′
+    → (r ≡ r′) × SameTool after after′ × SameBytes 201 reports reports′
+padded-again before i n r r′ after after′ reports reports′ f g m s t =
     let p = same-padded (wholeIn before) i n m in
-    same-again before i r r′ after after′ reports reports′ s (record {
+    same-again before i r r′ after after′ reports reports′ f g s (record {
       tool = t .tool ∙ ap (λ o. o .tool) p;
       told = t .told ∙ ap (λ o. o .reports) p;
       answered = t .answered ∙ ap (λ o. o .answer) p;
     })
 
 -- And so for set-up, whatever bytes it met.
-pub set-up-again : (P B r r′ : ℕ) (after after′ : List (List ℕ)) → SetUpCall P B r after → SetUpCall P B r′ after′
-    → (r ≡ r′) × SameTool after after′
-set-up-again P B r r′ after after′ s t = (s .answered ∙ sym (t .answered), same-tool after after′ (s .tool ∙ sym (t .tool)))
+pub set-up-again : (P B setting timeout r r′ : ℕ) (after after′ : List (List ℕ)) → OfBytes after → OfBytes after′
+    → SetUpCall P B setting timeout r after → SetUpCall P B setting timeout r′ after′ → (r ≡ r′) × SameTool after after′
+set-up-again P B setting timeout r r′ after after′ f g s t = (s .answered ∙ sym (t .answered), same-tool after after′ f g (s .tool ∙ sym (t .tool)))
 
 -- And so for two calls with the same message, which count the same items.
 pub message-again : (before : List (List ℕ)) (m : List ℕ) (r r′ : ℕ) (after after′ : List (List ℕ)) (reports reports′ : List ℕ) (n n′ : ℕ)
-    → SecsCall before m r after reports n → SecsCall before m r′ after′ reports′ n′
-    → (r ≡ r′) × SameTool after after′ × SameBytes 141 reports reports′ × (n ≡ n′)
-message-again before m r r′ after after′ reports reports′ n n′ s t = (
+    → OfBytes after → OfBytes after′ → SecsCall before m r after reports n → SecsCall before m r′ after′ reports′ n′
+    → (r ≡ r′) × SameTool after after′ × SameBytes 201 reports reports′ × (n ≡ n′)
+message-again before m r r′ after after′ reports reports′ n n′ f g s t = (
   s .answered ∙ sym (t .answered),
-  same-tool after after′ (s .tool ∙ sym (t .tool)),
+  same-tool after after′ f g (s .tool ∙ sym (t .tool)),
   reported-byte reports reports′ (s .told ∙ sym (t .told)),
   s .counted ∙ sym (t .counted),
 )

@@ -6,12 +6,13 @@ use mathlib.Core.List.{List, [], _∷_, _++_, map}
 use lib.ListN.{length, getD}
 use lib.Dec.{eqb}
 use Rattle.rules.specs.State.{recordOf}
-use Rattle.rules.specs.Seen.{Input}
+use Rattle.rules.specs.Seen.{inputOf}
 use Rattle.rules.specs.History.{Event, history}
 use Rattle.rules.specs.Promise.{Live, Orderly}
 use Rattle.image.specs.Image.{byteAt, toolFrom, reportsFrom}
 use Rattle.logs.specs.Judging.{Judgement}
-use Rattle.queue.specs.State.{Queued, baseOf, stateOf}
+use Rattle.prediction.specs.State.{Predicted, baseOf, stateOf, Timed, timed}
+use Rattle.prediction.specs.Outcome.{isTimed}
 use Rattle.maps.specs.Promise.{Earned}
 use Rattle.tool.specs.Whole.{wholeIn, soundWhole, setUp}
 use Rattle.door.specs.Door.{shown, outcome}
@@ -21,12 +22,16 @@ use Rattle.bridge.specs.Bridge.{bridged, itemsIn}
 use Rattle.bridge.specs.Exchange.{exchanged, replied}
 
 -- What hm_setup ensures: the bytes that it leaves hold the tool that set-up gives, and it gives set-up's answer.
-pub record SetUpCall (ports places answer : ℕ) (after : List (List ℕ)) : Type 0 where
-  pub tool : wholeIn after ≡ setUp ports places .tool
-  pub answered : answer ≡ setUp ports places .answer
+pub record SetUpCall (ports places setting timeout answer : ℕ) (after : List (List ℕ)) : Type 0 where
+  pub tool : wholeIn after ≡ setUp ports places setting timeout .tool
+  pub answered : answer ≡ setUp ports places setting timeout .answer
 
--- What hm_step ensures: the tool that it leaves, its reports and its answer are those of the input's outcome.
-pub record StepCall (before : List (List ℕ)) (input : Input) (answer : ℕ) (after : List (List ℕ)) (reports : List ℕ) : Type 0 where
+-- What hm_time_step is asked for: an input that brings a clock. Any other number is none of them, and answered 1.
+abbrev pub bringingClock : ℕ → ℕ → List ℕ → ℕ → Timed
+bringingClock number clock name time = timed (inputOf (cond (isTimed number) number 0) 0 0 name []) clock time
+
+-- What hm_step and hm_time_step ensure: the tool that it leaves, its reports and its answer are those of the input's outcome.
+pub record StepCall (before : List (List ℕ)) (input : Timed) (answer : ℕ) (after : List (List ℕ)) (reports : List ℕ) : Type 0 where
   pub tool : wholeIn after ≡ outcome (wholeIn before) input .tool
   pub told : reportsFrom reports ≡ outcome (wholeIn before) input .reports
   pub answered : answer ≡ outcome (wholeIn before) input .answer
@@ -59,10 +64,10 @@ judgement says judged tool reports = record {
   last = record { tool = toolFrom tool; answer = getD judged 2 0; reports = reportsFrom reports };
 }
 
--- What a call brings: an input to hm_step; a message to hm_secs_step, which counted so many items; or a message to hm_secs_exchange,
+-- What a call brings: an input to hm_step or hm_time_step; a message to hm_secs_step, which counted so many items; or a message to hm_secs_exchange,
 -- with the room that was lent, the items that were counted, the room that was left and the length of the reply.
 pub data Sent : Type 0 where
-  typed : Input → Sent
+  typed : Timed → Sent
   text : List ℕ → ℕ → Sent
   lent : List ℕ → List ℕ → ℕ → List ℕ → ℕ → Sent
 
@@ -79,22 +84,23 @@ Made before (text message items) answer after reports = SecsCall before message 
 Made before (lent message room items left length) answer after reports =
     ExchangeCall before message room answer after reports items left length
 
--- A run of calls, the latest first, and the bytes that it left: hm_setup answered 0 for P ports and B places,
+-- A run of calls, the latest first, and the bytes that it left: hm_setup answered 0 for P ports, B places and these times,
 -- and each call met the bytes that the call before it left.
-unfoldable pub Left : ℕ → ℕ → List Call → List (List ℕ) → Type 0
-Left P B [] bytes = SetUpCall P B 0 bytes
-Left P B (c ∷ earlier) bytes = Left P B earlier (c .before) × Made (c .before) (c .sent) (c .answer) bytes (c .reports)
+unfoldable pub Left : ℕ → ℕ → ℕ → ℕ → List Call → List (List ℕ) → Type 0
+Left P B setting timeout [] bytes = SetUpCall P B setting timeout 0 bytes
+Left P B setting timeout (c ∷ earlier) bytes =
+    Left P B setting timeout earlier (c .before) × Made (c .before) (c .sent) (c .answer) bytes (c .reports)
 
 -- the state that bytes hold
-abbrev pub stateIn : List (List ℕ) → Queued
+abbrev pub stateIn : List (List ℕ) → Predicted
 stateIn bytes = stateOf (wholeIn bytes .layered)
 
 -- The input that rows saw: a message that the reader refuses brings none.
-unfoldable pub read : List ℕ → List Input
-read message = cond (eqb (requestIn message .refusal) 0) (shown (requestIn message .input) ∷ []) []
+unfoldable pub read : List ℕ → List Timed
+read message = cond (eqb (requestIn message .refusal) 0) (shown (timed (requestIn message .input) 0 0) ∷ []) []
 
 -- and none whose reply has no room
-unfoldable pub taken : Sent → ℕ → List Input
+unfoldable pub taken : Sent → ℕ → List Timed
 taken (typed i) answer = shown i ∷ []
 taken (text message items) answer = read message
 taken (lent message room items left length) answer = cond (eqb answer 14) [] (read message)
@@ -102,7 +108,7 @@ taken (lent message room items left length) answer = cond (eqb answer 14) [] (re
 -- What happened in a call: the answer is the one that the call gave.
 abbrev pub eventsOf : Call → List Event
 eventsOf c =
-    map (λ i. record { before = baseOf (stateIn (c .before)); input = i; answer = c .answer }) (taken (c .sent) (c .answer))
+    map (λ i. record { before = baseOf (stateIn (c .before)); input = i .input; answer = c .answer }) (taken (c .sent) (c .answer))
 
 unfoldable pub happened : List Call → List Event
 happened [] = []
@@ -124,3 +130,7 @@ SameBytes n a b = (k : ℕ) → k < n → byteAt a k ≡ byteAt b k
 -- the two blocks of a tool are the same
 abbrev pub SameTool : List (List ℕ) → List (List ℕ) → Type 0
 SameTool a b = SameBytes 1891 (getD a 0 []) (getD b 0 []) × SameBytes 1891 (getD a 1 []) (getD b 1 [])
+
+-- Each number of a tool's second block is a byte, as all that C can lend: the seconds there are written with four digits.
+abbrev pub OfBytes : List (List ℕ) → Type 0
+OfBytes a = (k : ℕ) → byteAt (getD a 1 []) k < 256

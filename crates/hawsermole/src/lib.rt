@@ -7,14 +7,17 @@ ghost use Rattle.items.specs.Reading.{readMessage};
 ghost use Rattle.logs.specs.Judging.{judge};
 ghost use Rattle.names.specs.Check.{nameLength};
 ghost use Rattle.waiting.specs.Waiting.{answerIn, foundIn};
+ghost use Rattle.prediction.specs.State.{timed};
+ghost use Rattle.prediction.specs.Outcome.{isTimed};
 ghost use Rattle.tool.specs.Whole.{wholeIn, soundWhole};
-ghost use Rattle.hawsermole.specs.Calls.{SetUpCall, StepCall, SecsCall, ExchangeCall, judgement};
+ghost use Rattle.hawsermole.specs.Calls.{SetUpCall, StepCall, bringingClock, SecsCall, ExchangeCall, judgement};
 ghost use Rattle.replies.specs.Reply.{replyText, Wrote};
 use bridge::bridge::bridge_step;
 use bridge::exchange::exchange;
 use door::door::door_step;
 use items::reader::read_message;
 use judge::log::judge_log;
+use model8::facts::is_timed;
 use names::check::name_length;
 use records::carrier::Carrier;
 use replies::reply::reply;
@@ -25,12 +28,12 @@ use waiting::found::before_end;
 use waiting::found::stopped_at;
 use waiting::found::waits_for_host;
 
-// 0x00MMmmpp: 0.9.0, HM_VERSION of the header that belongs to it.
+// 0x00MMmmpp: 0.10.0, HM_VERSION of the header that belongs to it.
 #[no_mangle]
 pub extern "C" fn hm_version() -> u32
-    ensures { λ r. ⌜ r ≡ 2304 ⌝ }
+    ensures { λ r. ⌜ r ≡ 2560 ⌝ }
 {
-    0x000900
+    0x000A00
 }
 
 #[no_mangle]
@@ -42,16 +45,22 @@ pub extern "C" fn hm_tool_size() -> u32
 
 #[no_mangle]
 pub extern "C" fn hm_reports_size() -> u32
-    ensures { λ r. ⌜ r ≡ 141 ⌝ }
+    ensures { λ r. ⌜ r ≡ 201 ⌝ }
 {
-    141
+    201
 }
 
 #[no_mangle]
-pub extern "C" fn hm_setup(tool: &mut [[u8; 1891]; 2], ports: u32, places: u32) -> u32
-    ensures { λ r. ⌜ SetUpCall ports places r (now (tool .exit)) ⌝ }
+pub extern "C" fn hm_setup(
+    tool: &mut [[u8; 1891]; 2],
+    ports: u32,
+    places: u32,
+    setting: u32,
+    timeout: u32,
+) -> u32
+    ensures { λ r. ⌜ SetUpCall ports places setting timeout r (now (tool .exit)) ⌝ }
 {
-    let answer = whole_setup(tool, ports, places);
+    let answer = whole_setup(tool, ports, places, setting, timeout);
     answer as u32
 }
 
@@ -72,18 +81,53 @@ pub extern "C" fn hm_name(text: &[u8]) -> u32
 #[no_mangle]
 pub extern "C" fn hm_step(
     tool: &mut [[u8; 1891]; 2],
-    reports: &mut [u8; 141],
+    reports: &mut [u8; 201],
     number: u32,
     port: u32,
     value: u32,
     name: &[u8],
     codes: &[u8],
 ) -> u32
-    ensures { λ r. ⌜ StepCall (now (tool .entry)) (inputOf number port value (now (name .entry)) (now (codes .entry)))
+    ensures { λ r. ⌜ StepCall (now (tool .entry)) (timed (inputOf number port value (now (name .entry)) (now (codes .entry))) 0 0)
         r (now (tool .exit)) (now (reports .exit)) ⌝ }
 {
-    let answer = door_step(tool, reports, number, port, value, name, codes);
+    let answer = door_step(tool, reports, number, port, value, name, codes, 0, 0);
     answer as u32
+}
+
+// The inputs that bring a clock: 31, and 32 to 34 with a name, Tp or Te. Any other number is none of them.
+#[no_mangle]
+pub extern "C" fn hm_time_step(
+    tool: &mut [[u8; 1891]; 2],
+    reports: &mut [u8; 201],
+    number: u32,
+    clock: u32,
+    name: &[u8],
+    time: u32,
+) -> u32
+    ensures { λ r. ⌜ StepCall (now (tool .entry)) (bringingClock number clock (now (name .entry)) time)
+        r (now (tool .exit)) (now (reports .exit)) ⌝ }
+{
+    let none = [0; 0];
+    let answer = door_step(
+        tool,
+        reports,
+        of_clock(number),
+        0,
+        0,
+        name,
+        &none,
+        clock,
+        time,
+    );
+    answer as u32
+}
+
+// An input's number, if it brings a clock, and else none's.
+fn of_clock(number: u32) -> u32
+    ensures { λ r. ⌜ r ≡ cond (isTimed number) number 0 ⌝ }
+{
+    if is_timed(number) { number } else { 0 }
 }
 
 // The first carrier that waits for the host, in a table that the equipment lends: C passes its first record and how many there are.
@@ -109,7 +153,7 @@ pub extern "C" fn hm_waiting(carriers: &[Carrier], found: &mut Found) -> u32
 #[no_mangle]
 pub extern "C" fn hm_secs_step(
     tool: &mut [[u8; 1891]; 2],
-    reports: &mut [u8; 141],
+    reports: &mut [u8; 201],
     message: &[u8],
     items: &mut u32,
 ) -> u32
@@ -124,7 +168,7 @@ pub extern "C" fn hm_secs_step(
 #[no_mangle]
 pub extern "C" fn hm_secs_exchange(
     tool: &mut [[u8; 1891]; 2],
-    reports: &mut [u8; 141],
+    reports: &mut [u8; 201],
     message: &[u8],
     items: &mut u32,
     room: &mut [u8],
@@ -161,7 +205,7 @@ pub extern "C" fn hm_secs_at(message: &[u8]) -> usize
 pub extern "C" fn hm_judge(
     log: &[u8],
     tool: &mut [u8; 1891],
-    reports: &mut [u8; 141],
+    reports: &mut [u8; 201],
     judged: &mut [u64; 3],
 ) -> u32
     ensures { λ r. ⌜ judgement r (now (judged .exit)) (now (tool .exit)) (now (reports .exit)) ≡ judge (now (log .entry)) ⌝ }

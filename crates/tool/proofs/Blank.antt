@@ -1,20 +1,26 @@
--- A block of zeros: no map, no request, and nothing unused.
+-- A block of zeros: no map, no request, no time, no prediction, and nothing unused.
 use Prim.Native.Nat.{ℕ, _+_, _*_}
 use mathlib.Core.Path.{_≡_, _∙_}
-use mathlib.Core.List.{List}
-use lib.ListN.{replicate}
-use Rattle.image.specs.Image.{bytesFrom}
+use mathlib.Core.List.{List, []}
+use lib.ListN.{getD, replicate}
+use Rattle.rules.specs.declared.tool.Tool.{Tool}
+use Rattle.image.specs.Image.{toolFrom, bytesFrom}
 use Rattle.image.proofs.Table.{table-same, table-const}
 use Rattle.machine.proofs.Fresh.{zero-at}
 use Rattle.follow.specs.Follow.{entriesFrom}
 use Rattle.maps.specs.State.{noMaps}
 use Rattle.maps.specs.Expected.{noMap}
-use Rattle.mapped.specs.Bytes.{mapsFrom}
+use Rattle.mapped.specs.Bytes.{mapsFrom, ownIn}
 use Rattle.queue.specs.Requests.{noRequest}
 use Rattle.queue.specs.State.{noRequests}
 use Rattle.line.specs.Bytes.{requestStart, requestFrom, queueFrom}
+use Rattle.queued.specs.Bytes.{queuedIn}
+use Rattle.prediction.specs.declared.prediction.Times.{Times}
+use Rattle.prediction.specs.Predictions.{noPrediction}
+use Rattle.prediction.specs.State.{noPredictions}
+use Rattle.times.specs.Bytes.{secondsFrom, timesFrom, predictionFrom, predictionStart, predictionsFrom}
 
-abbrev zeros : List ℕ
+abbrev pub zeros : List ℕ
 zeros = replicate 1891 0
 
 pub none-used : (o n : ℕ) → bytesFrom zeros o n ≡ replicate n 0
@@ -30,3 +36,23 @@ no-requests = table-same 16 _ (λ k. noRequest) (λ k h. none-at (requestStart k
   where
     none-at : (o : ℕ) → requestFrom zeros o ≡ noRequest
     none-at o = rw (none-used o 16, zero-at 1891 (o + 16), zero-at 1891 (o + 17))
+
+no-seconds : (o : ℕ) → secondsFrom zeros o ≡ 0
+unfolding secondsFrom
+no-seconds o = rw (zero-at 1891 o, zero-at 1891 (o + 1), zero-at 1891 (o + 2), zero-at 1891 (o + 3))
+
+pub no-times : _≡_ {A = Times} (timesFrom zeros) (record { now = 0; setting = 0; timeout = 0 })
+unfolding timesFrom
+no-times = rw (no-seconds 1189, no-seconds 1193, no-seconds 1197)
+
+pub no-predictions : predictionsFrom zeros ≡ noPredictions
+unfolding predictionsFrom predictionFrom
+no-predictions = table-same 36 _ (λ k. noPrediction) (λ k h. none-at (predictionStart k)) ∙ table-const 36 noPrediction
+  where
+    none-at : (o : ℕ) → predictionFrom zeros o ≡ noPrediction
+    none-at o = rw (zero-at 1891 o, zero-at 1891 (o + 1), zero-at 1891 (o + 2), no-seconds (o + 3), no-seconds (o + 7))
+
+-- beside document 01's tool
+pub queued-made : (m : List (List ℕ)) {t : Tool} → toolFrom (getD m 0 []) ≡ t → ownIn m ≡ zeros
+    → queuedIn m ≡ record { mapped = record { base = t; maps = noMaps }; waiting = 0; queue = noRequests }
+queued-made m p q = rw (p, q, no-maps, no-requests, zero-at 1891 900)

@@ -3,3 +3,4 @@ pub mod Blank
 pub mod Runs
 pub mod Only
 pub mod Refuses
+pub mod Accepts

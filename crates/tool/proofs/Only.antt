@@ -18,6 +18,8 @@ use Rattle.queue.specs.declared.request.Request.{Request}
 use Rattle.queue.specs.Requests.{noRequest}
 use Rattle.line.specs.Bytes.{waitingIn, requestStart, requestFrom, queueFrom}
 use Rattle.line.proofs.Laid.{request-is}
+use Rattle.times.specs.Bytes.{timesFrom, predictionsFrom}
+use Rattle.times.proofs.Only.{Bytes, times-byte, predictions-byte}
 use Rattle.tool.specs.Whole.{wholeIn}
 
 -- a byte of a part that is the same in both
@@ -38,8 +40,9 @@ request-byte m n o i e h = go (ltb i 16) refl (eqb i 16) refl
         let z : i ≡ 17 = omega (arith, b) in
         rw z (ap (λ (r : Request). r .started) e)
 
-module _ (m n : List ℕ) (p : mapsFrom m ≡ mapsFrom n) (w : waitingIn m ≡ waitingIn n) (r : queueFrom m ≡ queueFrom n)
-    (q : bytesFrom m 1189 702 ≡ bytesFrom n 1189 702) where
+module _ (m n : List ℕ) (f : Bytes m) (g : Bytes n) (p : mapsFrom m ≡ mapsFrom n) (w : waitingIn m ≡ waitingIn n)
+    (r : queueFrom m ≡ queueFrom n) (t : timesFrom m ≡ timesFrom n) (k : predictionsFrom m ≡ predictionsFrom n)
+    (q : bytesFrom m 1597 294 ≡ bytesFrom n 1597 294) where
   map-byte : (i : ℕ) → i < 900 → byteAt m i ≡ byteAt n i
   map-byte i h =
       let k = i / 25 in
@@ -59,10 +62,18 @@ module _ (m n : List ℕ) (p : mapsFrom m ≡ mapsFrom n) (w : waitingIn m ≡ w
       let e = sym (request-is m k b) ∙ ap (λ q. getD q k noRequest) r ∙ request-is n k b in
       rw z at (request-byte m n (requestStart k) (j % 18) e t)
 
+  unused-byte : (i : ℕ) → 1597 ≤ i → i < 1891 → byteAt m i ≡ byteAt n i
+  unused-byte i h l =
+      let z : 1597 + (i - 1597) ≡ i = omega arith in
+      rw z at (part-byte m n 1597 294 (i - 1597) q (omega arith))
+
   rest-byte : (i : ℕ) → 1189 ≤ i → i < 1891 → byteAt m i ≡ byteAt n i
-  rest-byte i h l =
-      let z : 1189 + (i - 1189) ≡ i = omega arith in
-      rw z at (part-byte m n 1189 702 (i - 1189) q (omega arith))
+  rest-byte i h l = go (ltb i 1201) refl (ltb i 1597) refl
+    where
+      go : (b : Bool) → ltb i 1201 ≡ b → (c : Bool) → ltb i 1597 ≡ c → byteAt m i ≡ byteAt n i
+      go true e c d = times-byte m n f g t i h (ltb-true i 1201 e)
+      go false e true d = predictions-byte m n f g k i (ltb-false i 1201 e) (ltb-true i 1597 d)
+      go false e false d = unused-byte i (ltb-false i 1597 d) l
 
   after-maps : (i : ℕ) → 900 ≤ i → i < 1891 → byteAt m i ≡ byteAt n i
   after-maps i h l = go (ltb i 901) refl (ltb i 1189) refl
@@ -82,19 +93,21 @@ module _ (m n : List ℕ) (p : mapsFrom m ≡ mapsFrom n) (w : waitingIn m ≡ w
   one-block : length m ≡ 1891 → length n ≡ 1891 → m ≡ n
   one-block a b = ext-getD 0 m n (a ∙ sym b) (λ i h. block-byte i (omega arith))
 
-pub one-tool : (a b c d : List ℕ) → length a ≡ 1891 → length b ≡ 1891 → length c ≡ 1891 → length d ≡ 1891
+pub one-tool : (a b c d : List ℕ) → length a ≡ 1891 → length b ≡ 1891 → length c ≡ 1891 → length d ≡ 1891 → Bytes b → Bytes d
     → wholeIn (a ∷ b ∷ []) ≡ wholeIn (c ∷ d ∷ []) → _≡_ {A = List (List ℕ)} (a ∷ b ∷ []) (c ∷ d ∷ [])
-one-tool a b c d p q r s e =
+one-tool a b c d p q r s f g e =
     rw (
-      one-image a c (ap (λ t. t .layered .mapped .base) e) p r,
-      one-block b d (ap (λ t. t .layered .mapped .maps) e) (ap (λ t. t .layered .waiting) e) (ap (λ t. t .layered .queue) e)
-          (ap (λ t. t .unused) e) q s,
+      one-image a c (ap (λ t. t .layered .queued .mapped .base) e) p r,
+      one-block b d f g (ap (λ t. t .layered .queued .mapped .maps) e) (ap (λ t. t .layered .queued .waiting) e)
+          (ap (λ t. t .layered .queued .queue) e) (ap (λ t. t .layered .times) e) (ap (λ t. t .layered .predictions) e) (ap (λ t. t .unused) e) q s,
     )
 
 -- the same in every byte, of any two that are read alike
 pub first-bytes : (a b : List (List ℕ)) → wholeIn a ≡ wholeIn b → (i : ℕ) → i < 1891 → byteAt (getD a 0 []) i ≡ byteAt (getD b 0 []) i
-first-bytes a b e = each-byte (getD a 0 []) (getD b 0 []) (ap (λ t. t .layered .mapped .base) e)
+first-bytes a b e = each-byte (getD a 0 []) (getD b 0 []) (ap (λ t. t .layered .queued .mapped .base) e)
 
-pub second-bytes : (a b : List (List ℕ)) → wholeIn a ≡ wholeIn b → (i : ℕ) → i < 1891 → byteAt (getD a 1 []) i ≡ byteAt (getD b 1 []) i
-second-bytes a b e = block-byte (getD a 1 []) (getD b 1 []) (ap (λ t. t .layered .mapped .maps) e) (ap (λ t. t .layered .waiting) e)
-    (ap (λ t. t .layered .queue) e) (ap (λ t. t .unused) e)
+pub second-bytes : (a b : List (List ℕ)) → Bytes (getD a 1 []) → Bytes (getD b 1 []) → wholeIn a ≡ wholeIn b
+    → (i : ℕ) → i < 1891 → byteAt (getD a 1 []) i ≡ byteAt (getD b 1 []) i
+second-bytes a b f g e =
+    block-byte (getD a 1 []) (getD b 1 []) f g (ap (λ t. t .layered .queued .mapped .maps) e) (ap (λ t. t .layered .queued .waiting) e)
+    (ap (λ t. t .layered .queued .queue) e) (ap (λ t. t .layered .times) e) (ap (λ t. t .layered .predictions) e) (ap (λ t. t .unused) e)

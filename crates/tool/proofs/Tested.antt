@@ -1,7 +1,7 @@
 -- What the one test of soundness finds, and what follows from it.
-use Prim.Native.Nat.{ℕ}
+use Prim.Native.Nat.{ℕ, _≤_}
 use native.Mathlib.Omega.{arith}
-use mathlib.Core.Path.{_≡_, refl, sym, _∙_}
+use mathlib.Core.Path.{_≡_, refl, ap, sym, _∙_}
 use mathlib.Core.Bool.{Bool, true, false, _&&_}
 use mathlib.Core.List.{List, []}
 use lib.ListN.{length, getD, take, drop}
@@ -13,7 +13,6 @@ use Rattle.rules.specs.declared.tool.Tool.{Tool}
 use Rattle.rules.specs.State as base
 use Rattle.rules.specs.Sound as base-sound
 use Rattle.rules.specs.Held.{Held}
-use Rattle.rules.specs.Seen.{Input}
 use Rattle.rules.proofs.Holding.{tool-sound, count-held}
 use Rattle.image.specs.Image.{toolFrom, bytesFrom}
 use Rattle.image.proofs.Table.{table-same}
@@ -27,13 +26,21 @@ use Rattle.mapped.proofs.InBytes.{maps-long}
 use Rattle.queue.specs.declared.request.Request.{Request}
 use Rattle.queue.specs.State as queue-state
 use Rattle.queue.specs.State.{baseOf, QueuedTool}
-use Rattle.queue.specs.Sound.{soundTool}
-use Rattle.queue.specs.Outcome.{givenIn}
+use Rattle.queue.specs.Sound as queue
 use Rattle.line.specs.Bytes.{waitingIn, queueFrom}
 use Rattle.line.specs.Tests.{soundLine}
 use Rattle.line.proofs.Laid.{queue-long}
 use Rattle.line.proofs.Tested.{line-tested}
 use Rattle.queued.specs.Bytes.{queuedIn}
+use Rattle.prediction.specs.declared.prediction.Prediction.{Prediction}
+use Rattle.prediction.specs.declared.prediction.Times.{Times}
+use Rattle.prediction.specs.State.{PredictedTool, Timed}
+use Rattle.prediction.specs.Sound.{timesInRange, soundTool}
+use Rattle.prediction.specs.Outcome.{givenIn}
+use Rattle.times.specs.Bytes.{timesFrom, predictionsFrom}
+use Rattle.times.specs.Tests.{soundPredictions}
+use Rattle.times.proofs.Tested.{predictions-tested}
+use Rattle.predicted.specs.Bytes.{predictedIn}
 use Rattle.tool.specs.Whole.{Whole, wholeIn, soundWhole, refused, around, outcome}
 
 module _ (t : Tool) (m : List ℕ) (h : base-sound.soundTool t ≡ true) (k : Held t) where
@@ -54,50 +61,71 @@ module _ (t : Tool) (m : List ℕ) (h : base-sound.soundTool t ≡ true) (k : He
   unfolding maps.soundTool
   maps-tested = rw (h, state-sound) (and-comm (every isKept (take (t .count) (mapsFrom m))) _)
 
-unsound-below : (t : QueuedTool) → maps.soundTool (t .mapped) ≡ false → soundTool t ≡ false
-unfolding soundTool
+unsound-below : (t : QueuedTool) → maps.soundTool (t .mapped) ≡ false → queue.soundTool t ≡ false
+unfolding queue.soundTool
 unsound-below t e = rw e
 
 -- the maps and the queue
 pub queue-tested : (t : QueuedTool) → length (t .queue) ≡ 16
-    → (maps.soundTool (t .mapped) && soundLine (baseOf (queue-state.stateOf t)) (t .waiting) (t .queue)) ≡ soundTool t
+    → (maps.soundTool (t .mapped) && soundLine (baseOf (queue-state.stateOf t)) (t .waiting) (t .queue)) ≡ queue.soundTool t
 queue-tested t long = go (maps.soundTool (t .mapped)) refl
   where
-    go : (w : Bool) → maps.soundTool (t .mapped) ≡ w → (w && soundLine (baseOf (queue-state.stateOf t)) (t .waiting) (t .queue)) ≡ soundTool t
+    go : (w : Bool) → maps.soundTool (t .mapped) ≡ w → (w && soundLine (baseOf (queue-state.stateOf t)) (t .waiting) (t .queue)) ≡ queue.soundTool t
     go true e = line-tested t e long
     go false e = sym (unsound-below t e)
 
 pub base-unsound : (m : List (List ℕ)) → base-sound.soundTool (mappedIn m .base) ≡ false → false ≡ soundWhole (wholeIn m)
-unfolding soundWhole soundTool maps.soundTool
+unfolding soundWhole soundTool queue.soundTool maps.soundTool
 base-unsound m h = rw h
 
-pub whole-tested : (m : List (List ℕ)) (b c : Bool) → b ≡ maps.soundTool (mappedIn m)
-    → c ≡ soundLine (base.stateOf (mappedIn m .base)) (waitingIn (ownIn m)) (queueFrom (ownIn m))
-    → (b && c && every isZero (bytesFrom (ownIn m) 1189 702)) ≡ soundWhole (wholeIn m)
-unfolding soundWhole
-whole-tested m b c p q = rw (p, q, queue-tested (queuedIn m) (queue-long (ownIn m)))
+-- the times and the predictions, with a queue that is sound or not
+unsound-queue : (t : PredictedTool) → queue.soundTool (t .queued) ≡ false → soundTool t ≡ false
+unfolding soundTool
+unsound-queue t e = rw e
 
-pub layered-sound : (m : List (List ℕ)) → soundWhole (wholeIn m) ≡ true → soundTool (queuedIn m) ≡ true
+times-tested : (m : List (List ℕ)) (z : Bool)
+    → (queue.soundTool (queuedIn m) && timesInRange (timesFrom (ownIn m))
+    && soundPredictions (base.stateOf (mappedIn m .base)) (mappedIn m .base .count) (predictionsFrom (ownIn m)) && z)
+    ≡ (soundTool (predictedIn m) && z)
+times-tested m z = go (queue.soundTool (queuedIn m)) refl
+  where
+    go : (w : Bool) → queue.soundTool (queuedIn m) ≡ w
+        → (w && timesInRange (timesFrom (ownIn m))
+        && soundPredictions (base.stateOf (mappedIn m .base)) (mappedIn m .base .count) (predictionsFrom (ownIn m)) && z)
+        ≡ (soundTool (predictedIn m) && z)
+    go true e = ap (λ b. b && z) (predictions-tested (predictedIn m) e)
+    go false e = rw (unsound-queue (predictedIn m) e)
+
+pub whole-tested : (m : List (List ℕ)) (b c d e : Bool) → b ≡ maps.soundTool (mappedIn m)
+    → c ≡ soundLine (base.stateOf (mappedIn m .base)) (waitingIn (ownIn m)) (queueFrom (ownIn m))
+    → d ≡ timesInRange (timesFrom (ownIn m))
+    → e ≡ soundPredictions (base.stateOf (mappedIn m .base)) (mappedIn m .base .count) (predictionsFrom (ownIn m))
+    → (b && c && d && e && every isZero (bytesFrom (ownIn m) 1597 294)) ≡ soundWhole (wholeIn m)
+unfolding soundWhole
+whole-tested m b c d e p q r s =
+    rw (p, q, r, s, queue-tested (queuedIn m) (queue-long (ownIn m))) (times-tested m (every isZero (bytesFrom (ownIn m) 1597 294)))
+
+pub layered-sound : (m : List (List ℕ)) → soundWhole (wholeIn m) ≡ true → soundTool (predictedIn m) ≡ true
 unfolding soundWhole
 layered-sound m h = and-l _ _ h
 
-pub when-sound : (t : Whole) (i : Input) → soundWhole t ≡ true → around t (givenIn (t .layered) i) ≡ outcome t i
+pub when-sound : (t : Whole) (i : Timed) → soundWhole t ≡ true → around t (givenIn (t .layered) i) ≡ outcome t i
 unfolding outcome
 when-sound t i h = rw h
 
-pub when-not : (t : Whole) (i : Input) → soundWhole t ≡ false → refused t 1 ≡ outcome t i
+pub when-not : (t : Whole) (i : Timed) → soundWhole t ≡ false → refused t 1 ≡ outcome t i
 unfolding outcome
 when-not t i h = rw h
 
 -- the bytes that the layers leave alone
-pub unused-stay : (m n : List ℕ) → KeptOutside 0 1189 m n → bytesFrom n 1189 702 ≡ bytesFrom m 1189 702
-unused-stay m n k = table-same 702 _ _ (λ i h. k .after _ (omega arith))
+pub unused-after : {o e : ℕ} (m n : List ℕ) → KeptOutside o e m n → e ≤ 1597 → bytesFrom n 1597 294 ≡ bytesFrom m 1597 294
+unused-after m n k l = table-same 294 _ _ (λ i h. k .after _ (omega arith))
 
-pub whole-of : (m : List (List ℕ)) (t : QueuedTool) (u : List ℕ) → queuedIn m ≡ t → bytesFrom (ownIn m) 1189 702 ≡ u
+pub whole-of : (m : List (List ℕ)) (t : PredictedTool) (u : List ℕ) → predictedIn m ≡ t → bytesFrom (ownIn m) 1597 294 ≡ u
     → wholeIn m ≡ record { layered = t; unused = u }
 whole-of m t u p q = rw (p, q)
 
-pub whole-made : (m : List (List ℕ)) {t : Tool} {l : List (List ℕ)} {w : ℕ} {q : List Request} {u : List ℕ} → toolFrom (getD m 0 []) ≡ t
-    → mapsFrom (ownIn m) ≡ l → waitingIn (ownIn m) ≡ w → queueFrom (ownIn m) ≡ q → bytesFrom (ownIn m) 1189 702 ≡ u
-    → wholeIn m ≡ record { layered = record { mapped = record { base = t; maps = l }; waiting = w; queue = q }; unused = u }
-whole-made m p q r s t = rw (p, q, r, s, t)
+pub whole-made : (m : List (List ℕ)) {q : QueuedTool} {t : Times} {p : List Prediction} {u : List ℕ} → queuedIn m ≡ q
+    → timesFrom (ownIn m) ≡ t → predictionsFrom (ownIn m) ≡ p → bytesFrom (ownIn m) 1597 294 ≡ u
+    → wholeIn m ≡ record { layered = record { queued = q; times = t; predictions = p }; unused = u }
+whole-made m a b c d = rw (a, b, c, d)

@@ -3,28 +3,31 @@ use Prim.Native.Nat.{ℕ}
 use mathlib.Core.Bool.{Bool, cond, _&&_}
 use mathlib.Core.List.{List, [], _∷_}
 use lib.ListN.{replicate}
+use lib.Dec.{eqb}
 use Rattle.lists.specs.Lists.{every}
+use Rattle.rules.specs.declared.tool.Tool.{Tool}
 use Rattle.rules.specs.declared.report.Reports.{Reports}
 use Rattle.rules.specs.State as base
-use Rattle.rules.specs.Seen.{Input}
 use Rattle.rules.specs.Reports.{noReports}
 use Rattle.image.specs.Image.{bytesFrom}
 use Rattle.passes.specs.Passes.{isZero}
 use Rattle.maps.specs.State.{noMaps}
 use Rattle.mapped.specs.Bytes.{ownIn}
-use Rattle.queue.specs.State.{QueuedTool, noRequests}
-use Rattle.queue.specs.Sound.{soundTool}
-use Rattle.queue.specs.Outcome.{Given, givenIn}
-use Rattle.queued.specs.Bytes.{queuedIn}
+use Rattle.queue.specs.State.{noRequests}
+use Rattle.prediction.specs.State.{PredictedTool, noPredictions, Timed}
+use Rattle.prediction.specs.Sound.{isSpan, soundTool}
+use Rattle.prediction.specs.Outcome.{Given, givenIn}
+use Rattle.predicted.specs.Bytes.{predictedIn}
 
--- Document 01's tool with the expected maps and the queue, and the bytes that no request uses.
+-- Document 01's tool with the expected maps, the queue, the times and the predictions, and the bytes that no request uses.
 pub record Whole : Type 0 where
-  pub layered : QueuedTool
+  pub layered : PredictedTool
   pub unused : List ℕ
 
--- In bytes it is two blocks of 1,891: document 01's tool; then 900 bytes of maps, 289 of the queue, and 702 unused ones.
+-- In bytes it is two blocks of 1,891: document 01's tool; then 900 bytes of maps, 289 of the queue, 12 of times, 396 of predictions,
+-- and 294 unused ones.
 abbrev pub wholeIn : List (List ℕ) → Whole
-wholeIn m = record { layered = queuedIn m; unused = bytesFrom (ownIn m) 1189 702 }
+wholeIn m = record { layered = predictedIn m; unused = bytesFrom (ownIn m) 1597 294 }
 
 -- Unused bytes are zero.
 unfoldable pub soundWhole : Whole → Bool
@@ -35,15 +38,23 @@ pub record Setup : Type 0 where
   pub tool : Whole
   pub answer : ℕ
 
--- as in document 01, with no map and no request; refused, it is all zeros
-abbrev pub setUp : ℕ → ℕ → Setup
-setUp P B = record {
-  tool = record {
-    layered = record { mapped = record { base = base.setUp P B .tool; maps = noMaps }; waiting = 0; queue = noRequests };
-    unused = replicate 702 0;
+-- nothing but a setting time and a timeout beside document 01's tool: no map, no request, no prediction, and the clock at 0
+abbrev pub fresh : Tool → ℕ → ℕ → Whole
+fresh t setting timeout = record {
+  layered = record {
+    queued = record { mapped = record { base = t; maps = noMaps }; waiting = 0; queue = noRequests };
+    times = record { now = 0; setting = setting; timeout = timeout };
+    predictions = noPredictions;
   };
-  answer = base.setUp P B .answer;
+  unused = replicate 294 0;
 }
+
+-- As in document 01, and refused too where the setting time or the timeout is longer than a day; then it is all zeros.
+unfoldable pub setUp : ℕ → ℕ → ℕ → ℕ → Setup
+setUp P B setting timeout =
+    cond (eqb (base.setUp P B .answer) 0 && (isSpan setting && isSpan timeout))
+    (record { tool = fresh (base.setUp P B .tool) setting timeout; answer = 0 })
+    (record { tool = fresh base.noTool 0 0; answer = 1 })
 
 -- ── Inputs ──
 pub record Outcome : Type 0 where
@@ -64,10 +75,10 @@ around t g = record {
 }
 
 -- an input to any tool: one that isn't sound refuses it with 1
-unfoldable pub outcome : Whole → Input → Outcome
+unfoldable pub outcome : Whole → Timed → Outcome
 outcome t i = cond (soundWhole t) (around t (givenIn (t .layered) i)) (refused t 1)
 
 -- The tool that a run of inputs has reached, the latest input first.
-unfoldable pub reachedWhole : Whole → List Input → Whole
+unfoldable pub reachedWhole : Whole → List Timed → Whole
 reachedWhole t [] = t
 reachedWhole t (i ∷ earlier) = outcome (reachedWhole t earlier) i .tool

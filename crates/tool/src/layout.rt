@@ -1,7 +1,7 @@
 // What no request uses of the second block.
 use image::layout::TOOL_BYTES;
-use line::layout::QUEUE_END;
+use times::layout::PREDICTIONS_END;
 
-pub const UNUSED_START: usize = QUEUE_END;
+pub const UNUSED_START: usize = PREDICTIONS_END;
 
 pub const UNUSED_BYTES: usize = TOOL_BYTES - UNUSED_START;

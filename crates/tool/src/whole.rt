@@ -1,8 +1,10 @@
 // Two blocks of bytes: document 01's tool, and what requests add to it.
 ghost use mathlib.Core.Path.{_≡_};
+ghost use mathlib.Core.Bool.{cond};
 ghost use lib.ListN.{replicate};
 ghost use Rattle.rules.specs.Seen.{inputOf};
 ghost use Rattle.image.specs.Image.{reportsFrom};
+ghost use Rattle.prediction.specs.State.{timed};
 ghost use Rattle.tool.specs.Whole.{wholeIn, soundWhole, setUp, outcome};
 use crate::layout::*;
 use follow::blocks::BLOCKS;
@@ -14,9 +16,13 @@ use line::sound::sound_queue;
 use machine::setup::setup;
 use mapped::kept::sound_maps;
 use passes::bytes::zeros;
-use queued::step::queued_step;
+use predicted::step::predicted_step;
 use records::choose::wide;
 use soundness::whole::sound;
+use times::sound::sound_predictions;
+use times::sound::sound_times;
+use times::words::SPAN_MOST;
+use times::write::put_spans;
 
 // Whether all of it is sound: the one place where this is tested.
 pub fn whole_sound(m: &[[u8; TOOL_BYTES]; BLOCKS]) -> bool
@@ -26,7 +32,9 @@ pub fn whole_sound(m: &[[u8; TOOL_BYTES]; BLOCKS]) -> bool
         let n = wide(count(&m[0]));
         let maps = sound_maps(&m[1], n);
         let queue = sound_queue(m);
-        maps & queue & zeros(&m[1], UNUSED_START, UNUSED_BYTES)
+        let times = sound_times(&m[1]);
+        let predictions = sound_predictions(m);
+        maps & queue & times & predictions & zeros(&m[1], UNUSED_START, UNUSED_BYTES)
     } else {
         false
     }
@@ -41,13 +49,33 @@ fn clear_block(m: &mut [u8; TOOL_BYTES])
     clear(m);
 }
 
-pub fn whole_setup(m: &mut [[u8; TOOL_BYTES]; BLOCKS], ports: u32, places: u32) -> u8
-    ensures { λ r. ⌜ wholeIn (now (m .exit)) ≡ setUp ports places .tool ⌝ }
-    ensures { λ r. ⌜ r ≡ setUp ports places .answer ⌝ }
+// No tool has 0 ports: so set-up is refused with it.
+fn ports_if(fine: bool, ports: u32) -> u32
+    ensures { λ r. ⌜ r ≡ cond fine ports 0 ⌝ }
+{
+    if fine { ports } else { 0 }
+}
+
+pub fn whole_setup(
+    m: &mut [[u8; TOOL_BYTES]; BLOCKS],
+    ports: u32,
+    places: u32,
+    setting: u32,
+    timeout: u32,
+) -> u8
+    ensures { λ r. ⌜ wholeIn (now (m .exit)) ≡ setUp ports places setting timeout .tool ⌝ }
+    ensures { λ r. ⌜ r ≡ setUp ports places setting timeout .answer ⌝ }
 {
     blocks(m);
     clear_block(&mut m[1]);
-    setup(&mut m[0], ports, places)
+    let fine = (setting <= SPAN_MOST) & (timeout <= SPAN_MOST);
+    let answer = setup(&mut m[0], ports_if(fine, ports), places);
+    if answer == 0 {
+        put_spans(&mut m[1], setting, timeout);
+        0
+    } else {
+        answer
+    }
 }
 
 // Any input to any tool: the answer, the tool that follows, and the reports.
@@ -59,17 +87,18 @@ pub fn whole_step(
     value: u32,
     name: &[u8],
     codes: &[u8],
+    clock: u32,
+    time: u32,
 ) -> u8
     ensures { λ r. ⌜ wholeIn (now (m .exit)) ≡ outcome (wholeIn (now (m .entry)))
-        (inputOf number port value (now (name .entry)) (now (codes .entry))) .tool ⌝ }
+        (timed (inputOf number port value (now (name .entry)) (now (codes .entry))) clock time) .tool ⌝ }
     ensures { λ r. ⌜ reportsFrom (now (o .exit)) ≡ outcome (wholeIn (now (m .entry)))
-        (inputOf number port value (now (name .entry)) (now (codes .entry))) .reports ⌝ }
+        (timed (inputOf number port value (now (name .entry)) (now (codes .entry))) clock time) .reports ⌝ }
     ensures { λ r. ⌜ r ≡ outcome (wholeIn (now (m .entry)))
-        (inputOf number port value (now (name .entry)) (now (codes .entry))) .answer ⌝ }
+        (timed (inputOf number port value (now (name .entry)) (now (codes .entry))) clock time) .answer ⌝ }
 {
     if whole_sound(m) {
-        let r = queued_step(m, o, number, port, value, name, codes);
-        r.answer
+        predicted_step(m, o, number, port, value, name, codes, clock, time)
     } else {
         no_reports(o);
         1

@@ -5,7 +5,8 @@ use mathlib.Core.Path.{_≡_, sym, ap, _∙_}
 use mathlib.Core.List.{List}
 use lib.ListN.{take, drop}
 use lib.Seq.{length-take-le}
-use Rattle.rules.specs.Seen.{Input, inputOf}
+use Rattle.rules.specs.Seen.{inputOf}
+use Rattle.prediction.specs.State.{Timed, timed}
 use Rattle.items.specs.Reading.{readMessage}
 use Rattle.items.proofs.Few.{item-few}
 use Rattle.secs.specs.Request.{requestIn}
@@ -48,7 +49,7 @@ returns-2 c =
     let r = q .request-in .result in
     let m = s .args .message .now in
     let z : r .at + r .many - r .at ≡ r .many = omega arith in
-    let input : List ℕ → Input = λ name. inputOf (r .number) (r .port) 0 name (take (r .coded) (r .codes)) in
+    let input : List ℕ → Timed = λ name. timed (inputOf (r .number) (r .port) 0 name (take (r .coded) (r .codes))) 0 0 in
     let part = ap (λ k. outcome (wholeIn (s .args .m .now)) (input (take k (drop (r .at) m)))) z in
     let o = part ∙ taken (wholeIn (s .args .m .now)) m r h (i .if1 .left) in
     let w = c .door-step .ensures in

@@ -7,7 +7,8 @@ use lib.Seq.{length-take-le}
 use Rattle.names.specs.Check.{shortened}
 use Rattle.names.proofs.Given.{seen-front}
 use Rattle.names.proofs.Lengths.{shortened-short}
-use Rattle.rules.specs.Seen.{Input, inputOf}
+use Rattle.rules.specs.Seen.{inputOf}
+use Rattle.prediction.specs.State.{Timed, timed}
 use Rattle.tool.specs.Whole.{wholeIn}
 use Rattle.tool.specs.Whole as tool
 use Rattle.door.specs.Door.{outcome}
@@ -30,7 +31,8 @@ returns c =
     let s = b .before .before .before in
     let text = s .args .name .now in
     let e : b .shortened-length .result ≡ length (shortened text) = b .shortened-length .ensures in
-    let i : List ℕ → Input = λ name. inputOf (s .args .number) (s .args .port) (s .args .value) name (s .args .codes .now) in
+    let i : List ℕ → Timed =
+    λ name. timed (inputOf (s .args .number) (s .args .port) (s .args .value) name (s .args .codes .now)) (s .args .clock) (s .args .time) in
     let o = ap (λ name. tool.outcome (wholeIn (s .args .m .now)) (i name)) (ap (λ n. take n text) e ∙ seen-front text) in
     let w = c .whole-step .ensures in
     (w .0 ∙ ap (λ o. o .tool) o, (w .1 .0 ∙ ap (λ o. o .reports) o, w .1 .1 ∙ ap (λ o. o .answer) o))

@@ -37,7 +37,9 @@ sound-maps-requires c κs =
 
 returns : tie.Need-returns
 returns c =
-    let q = c .before .before in
+    let p = c .before .before in
+    let t = p .before in
+    let q = t .before .before in
     let k = q .before in
     let w = k .before .before in
     let u = w .before .before .before in
@@ -46,7 +48,7 @@ returns c =
     let e = k .sound-maps .ensures
     ∙ ap (λ n. every isKept (take n (mapsFrom (ownIn m))) && every isNone (drop n (mapsFrom (ownIn m)))) n
     ∙ maps-tested (toolFrom (getD m 0 [])) (ownIn m) (sound u) (held u) in
-    rw (c .zeros .ensures) (whole-tested m _ _ e (q .sound-queue .ensures))
+    rw (c .zeros .ensures) (whole-tested m _ _ _ _ e (q .sound-queue .ensures) (t .sound-times .ensures) (p .sound-predictions .ensures))
 
 returns-2 : tie.Need-returns-2
 returns-2 c = base-unsound (c .before .before .before .args .m .now) (sym (c .before .sound .ensures) ∙ c .if1 .left)
@@ -55,4 +57,5 @@ pub whole-sound-spec : {M : Type 1} → statement M
 whole-sound-spec =
     tie.close
     (tie.spec (λ c. search needs) (λ c κs. tt) (λ c. search needs) (λ c κs. tt) (λ c κs. tt) (λ c. search needs) sound-maps-requires
-    (λ c κs. held (c .before .before .before .before .before)) (λ c. search needs) (λ c κs. search needs) returns returns-2)
+    (λ c κs. held (c .before .before .before .before .before)) (λ c. search needs) (λ c κs. tt)
+    (λ c κs. held (c .before .before .before .before .before .before .before .before)) (λ c. search needs) (λ c κs. search needs) returns returns-2)

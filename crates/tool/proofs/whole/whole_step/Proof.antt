@@ -1,17 +1,20 @@
+use native.Mathlib.Omega.{arith}
 use mathlib.Core.Path.{sym, ap, _∙_}
-use Rattle.rules.specs.Seen.{Input, inputOf}
+use Rattle.rules.specs.Seen.{inputOf}
 use Rattle.mapped.specs.Bytes.{ownIn}
-use Rattle.queue.specs.Outcome.{Given}
+use Rattle.prediction.specs.State.{Timed, timed}
+use Rattle.prediction.specs.Outcome.{Given}
 use Rattle.tool.specs.Whole.{wholeIn}
-use Rattle.tool.proofs.Tested.{layered-sound, when-sound, when-not, unused-stay, whole-of}
+use Rattle.tool.proofs.Tested.{layered-sound, when-sound, when-not, unused-after, whole-of}
 use Rattle.tool.proofs.whole.whole_step.Statement.{statement}
 use Rattle.tool.proofs.whole.whole_step.Tie as tie
 
-abbrev input : tie.Start → Input
-input s = inputOf (s .args .number) (s .args .port) (s .args .value) (s .args .name .now) (s .args .codes .now)
+abbrev input : tie.Start → Timed
+input s =
+    timed (inputOf (s .args .number) (s .args .port) (s .args .value) (s .args .name .now) (s .args .codes .now)) (s .args .clock) (s .args .time)
 
-queued-step-requires : tie.Need-queued-step-requires
-queued-step-requires c κs =
+predicted-step-requires : tie.Need-predicted-step-requires
+predicted-step-requires c κs =
     let u = c .before .before in
     let t = u .before in
     layered-sound (t .before .before .before .before .args .m .now) (sym (t .whole-sound .ensures) ∙ u .if1 .taken)
@@ -23,9 +26,9 @@ returns c =
     let s = t .before .before .before .before in
     let m = s .args .m .now in
     let o = when-sound (wholeIn m) (input s) (sym (t .whole-sound .ensures) ∙ u .if1 .taken) in
-    let e = c .queued-step .ensures .0 in
-    let u = unused-stay (ownIn m) (ownIn (c .queued-step .last .0)) (c .queued-step .ensures .1) in
-    let w = whole-of (c .queued-step .last .0) _ _ (ap (λ (g : Given). g .tool) e) u in (
+    let e = c .predicted-step .ensures .0 in
+    let u = unused-after (ownIn m) (ownIn (c .predicted-step .last .0)) (c .predicted-step .ensures .1) (omega arith) in
+    let w = whole-of (c .predicted-step .last .0) _ _ (ap (λ (g : Given). g .tool) e) u in (
       w ∙ ap (λ x. x .tool) o,
       (ap (λ (g : Given). g .reports) e ∙ ap (λ x. x .reports) o, ap (λ (g : Given). g .answer) e ∙ ap (λ x. x .answer) o),
     )
@@ -39,4 +42,4 @@ returns-2 c =
     (ap (λ x. x .tool) o, (c .no-reports .ensures ∙ ap (λ x. x .reports) o, ap (λ x. x .answer) o))
 
 pub whole-step-spec : {M : Type 1} → statement M
-whole-step-spec = tie.close (tie.spec (λ c κs. tt) queued-step-requires (λ c κs. tt) returns returns-2)
+whole-step-spec = tie.close (tie.spec (λ c κs. tt) predicted-step-requires (λ c κs. tt) returns returns-2)
