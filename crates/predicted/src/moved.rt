@@ -12,9 +12,9 @@ ghost use Rattle.prediction.specs.Predictions.{noPrediction};
 ghost use Rattle.times.specs.Bytes.{predictionsFrom};
 ghost use Rattle.predicted.specs.Bytes.{baseIn, usedIn, NoneAfter, allAfter, toldAfter};
 use crate::along::*;
-use model8::facts::is_timed;
 use follow::blocks::BLOCKS;
 use image::layout::*;
+use model8::facts::is_timed;
 use prediction::prediction::Times;
 
 pub fn moved_along(

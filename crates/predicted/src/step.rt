@@ -8,11 +8,11 @@ ghost use Rattle.prediction.specs.State.{timed};
 ghost use Rattle.prediction.specs.Sound.{soundTool};
 ghost use Rattle.prediction.specs.Outcome.{givenIn};
 ghost use Rattle.predicted.specs.Bytes.{predictedIn, left};
-use model8::facts::is_timed;
 use crate::others::other_step;
 use crate::timed::timed_step;
 use follow::blocks::BLOCKS;
 use image::layout::*;
+use model8::facts::is_timed;
 
 pub fn predicted_step(
     m: &mut [[u8; TOOL_BYTES]; BLOCKS],
