@@ -71,10 +71,16 @@ impl Touched {
         Touched { gone: Some((i, c.name, face(c))), ..self }
     }
 
-    /// Where the record stood that went.
+    /// The port that was touched, as an index.
     #[inline]
-    pub(crate) fn went(&self) -> Option<usize> {
-        self.gone.map(|(i, ..)| i)
+    pub(crate) fn port_index(&self) -> Option<usize> {
+        self.port.map(|(p, _)| p)
+    }
+
+    /// Where the record stood that went, and its name.
+    #[inline]
+    pub(crate) fn went(&self) -> Option<(usize, [u8; NAME_LEN])> {
+        self.gone.map(|(i, name, _)| (i, name))
     }
 
     /// Where the record stands that stayed or came, once the input is done.
@@ -91,7 +97,7 @@ impl Touched {
 
     /// Writes one report for each difference, by model, to reports that are empty so far.
     #[inline]
-    pub(crate) fn report(self, t: &Tool, out: &mut Reports) {
+    pub(crate) fn report(&self, t: &Tool, out: &mut Reports) {
         if let Some((p, was)) = self.port {
             let is = PortFace::of(&t.port[p]);
             let port = p as u8 + 1;
@@ -130,7 +136,7 @@ impl Touched {
 
 impl Reports {
     #[inline]
-    fn push(&mut self, report: Report) {
+    pub(crate) fn push(&mut self, report: Report) {
         self.items[self.count as usize] = report;
         self.count += 1;
     }

@@ -22,6 +22,8 @@ pub(crate) enum Refusal {
     // The two that P5 adds; no row of document 01 gives them.
     QueueFull = 9,
     AlreadyQueued = 10,
+    // And the one of P7.
+    ClockEarlier = 11,
 }
 
 use Refusal::*;
@@ -64,7 +66,7 @@ pub fn step_known_sound(
 
 /// The answer, and the reports where the input was accepted.
 #[inline]
-pub(crate) fn answered(outcome: Outcome, t: &Tool, out: &mut Reports) -> u32 {
+fn answered(outcome: Outcome, t: &Tool, out: &mut Reports) -> u32 {
     *out = Reports::NONE;
     match outcome {
         Ok(touched) => {
@@ -624,7 +626,7 @@ impl Tool {
 
     /// The record tied to a port.
     #[inline]
-    fn tied_to(&self, p: usize) -> Option<usize> {
+    pub(crate) fn tied_to(&self, p: usize) -> Option<usize> {
         if !self.port[p].tied() {
             return None;
         }

@@ -36,7 +36,7 @@ struct Given<'a>(u32, u32, u32, &'a str, &'a [u8]);
 fn give(t: &mut Tool, Given(number, port, value, name, codes): Given) -> (u32, Reports) {
     // Whatever stood in the reports before is overwritten.
     let mut out =
-        Reports { count: 9, items: [Report { model: 9, port: 9, name: [9; 16], old: 9, new: 9 }; 7] };
+        Reports { count: 9, items: [Report { model: 9, port: 9, name: [9; 16], old: 9, new: 9 }; 10] };
     let before = *t;
     let answer = step(t, number, port, value, name.as_bytes(), codes, &mut out);
     if answer != 0 {
@@ -116,7 +116,7 @@ fn layout() {
     bytes[91 + 47..91 + 50].copy_from_slice(&[1, 1, 1]);
     assert_eq!(t.bytes(), bytes);
     let (_, out) = give(&mut t, Given(3, 0, 0, "C", &[]));
-    let mut bytes = [0; 141];
+    let mut bytes = [0; 201];
     bytes[0] = 3;
     for k in 0..3 {
         bytes[1 + 20 * k] = 5 + k as u8;

@@ -11,7 +11,7 @@ type Table = [[u64; 9]; 27];
 /// Gives an input and looks at everything that holds of all inputs.
 fn checked(t: &mut Tool, i: &Input) -> u32 {
     let dirty = Report { model: 9, port: 9, name: [9; 16], old: 9, new: 9 };
-    let mut out = Reports { count: 200, items: [dirty; 7] };
+    let mut out = Reports { count: 200, items: [dirty; 10] };
     let before = *t;
     let answer = step(t, i.number, i.port, i.value, &i.name, &i.codes, &mut out);
     let story = || format!("{i:?} answers {answer}\nbefore {}after {}", describe(&before), describe(t));

@@ -62,7 +62,7 @@ fn wild_input(t: &Tool, rng: &mut Rng) -> Input {
         40..=89 => Vec::new(),
         _ => odd_codes(rng),
     };
-    Input { number, port, value, name, codes }
+    Input { number, port, value, name, codes, ..Input::default() }
 }
 
 /// An input that names port `p`, counted from 0, alone.

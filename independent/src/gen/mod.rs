@@ -20,6 +20,9 @@ pub struct Input {
     pub value: u32,
     pub name: Vec<u8>,
     pub codes: Vec<u8>,
+    /// P7's clock, and Tp or Te.
+    pub clock: u32,
+    pub time: u32,
 }
 
 /// A splitmix64 generator. A mood lasts for some inputs and tells whether a run fills the tool, or the

@@ -2,7 +2,8 @@
 //!
 //! An input goes through the requests first, which may refuse it or have a row of their own for it, then
 //! to document 01's row, then through the requests again, which may change what the row did. The reports are the differences
-//! between the state before all of this and the state after it. So far these have come:
+//! between the state before all of this and the state after it, but for those of model 8, which are told in turn. So far
+//! these have come:
 //!
 //! - P1, slot maps the tool can judge: `maps`.
 //! - P4, names padded with blanks: [`names`].
@@ -10,29 +11,31 @@
 //! - P3, SECS-II from the host bridge: [`secs`], which gives the tool an input.
 //! - P13, answers to the bridge: [`reply`], with the words of [`texts`].
 //! - P5, a queue for CarrierOut: [`queue`], which has rows of its own and takes row 7 over.
+//! - P7, prediction of ready to unload: [`predict`], which has rows that bring the clock.
 
 mod maps;
 pub mod names;
+pub mod predict;
 pub mod queue;
 pub mod reply;
 pub mod secs;
 pub mod texts;
 mod waiting;
 
-use crate::report::Touched;
-use crate::rows::{answered, row, Outcome, Refusal};
+use crate::rows::{row, Outcome, Refusal, Result};
 use crate::sound::all_zero;
 use crate::state::{Plain, Reports, MAP_LEN, MAX_CARRIERS};
 
+use predict::Predictions;
 use queue::Queue;
 
 pub use waiting::waiting;
 
 /// How many inputs there are, numbered from 1.
-pub const INPUTS: u32 = 30;
+pub const INPUTS: u32 = 34;
 
 /// The bytes of a tool that no request has taken yet.
-pub const UNUSED: usize = 702;
+pub const UNUSED: usize = 294;
 
 #[derive(Clone, Copy, PartialEq, Eq, Debug)]
 #[repr(C)]
@@ -44,6 +47,8 @@ pub struct Tool {
     pub maps: [[u8; MAP_LEN]; MAX_CARRIERS],
     /// What is asked to come out of the buffer.
     pub queue: Queue,
+    /// The clock, setting time and timeout, and the prediction of each record.
+    pub predictions: Predictions,
     pub unused: [u8; UNUSED],
 }
 
@@ -60,6 +65,7 @@ impl Tool {
         base: crate::Tool::NONE,
         maps: [[0; MAP_LEN]; MAX_CARRIERS],
         queue: Queue::EMPTY,
+        predictions: Predictions::NONE,
         unused: [0; UNUSED],
     };
 
@@ -70,19 +76,25 @@ impl Tool {
     }
 }
 
-/// Makes the tool of `p` ports and `b` buffer places. Answers 0, or 1 with a tool of all zeros.
-pub fn setup(p: u32, b: u32, t: &mut Tool) -> u32 {
+/// Makes the tool of `p` ports and `b` buffer places, with these seconds of setting time and timeout.
+/// Answers 0, or 1 with a tool of all zeros.
+pub fn setup(p: u32, b: u32, setting: u32, timeout: u32, t: &mut Tool) -> u32 {
     *t = Tool::NONE;
-    crate::setup(p, b, &mut t.base)
+    if crate::setup(p, b, &mut t.base) == 0 && predict::setup(&mut t.predictions, setting, timeout) {
+        return 0;
+    }
+    *t = Tool::NONE;
+    Refusal::Range as u32
 }
 
 /// Whether the state is sound: to document 01, and to each request.
 pub fn sound(t: &Tool) -> bool {
-    crate::sound(&t.base) && maps::sound(t) && queue::sound(t) && all_zero(&t.unused)
+    crate::sound(&t.base) && maps::sound(t) && queue::sound(t) && predict::sound(t) && all_zero(&t.unused)
 }
 
 /// Gives the tool an input: 0 if accepted, with the reports in `out`; otherwise the number of the
-/// refusal, with the tool as it was and no report. A state that isn't sound is refused with 1.
+/// refusal, with the tool as it was and no report. A state that isn't sound is refused with 1. An input
+/// that brings the clock brings 0, and 0 for its time.
 pub fn step(
     t: &mut Tool,
     number: u32,
@@ -93,7 +105,8 @@ pub fn step(
     out: &mut Reports,
 ) -> u32 {
     if !sound(t) {
-        return answered(Err(Refusal::Range), &t.base, out);
+        *out = Reports::NONE;
+        return Refusal::Range as u32;
     }
     step_known_sound(t, number, port, value, name, codes, out)
 }
@@ -109,8 +122,37 @@ pub fn step_known_sound(
     codes: &[u8],
     out: &mut Reports,
 ) -> u32 {
-    let outcome = amended(t, &Given { number, port, value, name, codes });
-    answered(outcome, &t.base, out)
+    answered(t, &Given { number, port, value, name, codes, clock: 0, time: 0 }, out)
+}
+
+/// As [`step`] for an input that brings the clock: with a name and Tp or Te as its time, where it has
+/// them. Every other number is refused with 1.
+pub fn time_step(t: &mut Tool, number: u32, clock: u32, name: &[u8], time: u32, out: &mut Reports) -> u32 {
+    if !sound(t) {
+        *out = Reports::NONE;
+        return Refusal::Range as u32;
+    }
+    time_step_known_sound(t, number, clock, name, time, out)
+}
+
+/// As [`time_step`], for a state that is known to be sound.
+pub fn time_step_known_sound(
+    t: &mut Tool,
+    number: u32,
+    clock: u32,
+    name: &[u8],
+    time: u32,
+    out: &mut Reports,
+) -> u32 {
+    let number = if predict::is_timed(number) { number } else { 0 };
+    answered(t, &Given { number, port: 0, value: 0, name, codes: &[], clock, time }, out)
+}
+
+/// The answer, and the reports where the input is accepted.
+#[inline]
+fn answered(t: &mut Tool, given: &Given, out: &mut Reports) -> u32 {
+    *out = Reports::NONE;
+    amended(t, given, out).map_or_else(|refusal| refusal as u32, |()| 0)
 }
 
 /// An input with all its parts.
@@ -120,31 +162,38 @@ struct Given<'a> {
     value: u32,
     name: &'a [u8],
     codes: &'a [u8],
+    clock: u32,
+    time: u32,
 }
 
-/// Document 01's row with what the requests make of it.
+/// The input with what the requests make of it. No report comes before the last refusal.
 #[inline]
-fn amended(t: &mut Tool, given: &Given) -> Outcome {
+fn amended(t: &mut Tool, given: &Given, out: &mut Reports) -> Result<()> {
     let map = maps::given(given)?;
     let name = names::given(given)?;
-    if let Some(outcome) = queue::row(t, given, name) {
-        return outcome;
+    if predict::is_timed(given.number) {
+        return predict::row(t, given, name, out);
     }
+    let touched = match queue::row(t, given, name) {
+        Some(outcome) => outcome?,
+        None => amended_row(t, given, name, map)?,
+    };
+    touched.report(&t.base, out);
+    predict::follow(t, given.number, &touched, out);
+    Ok(())
+}
+
+/// Document 01's row, with the words on maps and on the queue.
+#[inline]
+fn amended_row(t: &mut Tool, given: &Given, name: &[u8], map: [u8; MAP_LEN]) -> Outcome {
     queue::admit(t, given, name)?;
 
     let touched = row(&mut t.base, given.number, given.port, given.value, name, given.codes)?;
-    move_with_records(t, &touched);
+    if let Some((i, _)) = touched.went() {
+        maps::remove(t, i);
+    }
     maps::keep(t, &touched, map);
     maps::judge(t, &touched, given);
     queue::drop_cancelled(t, given, name);
     Ok(touched)
-}
-
-/// What a request holds for each record follows the records: where one goes, those behind it move
-/// up.
-#[inline]
-fn move_with_records(t: &mut Tool, touched: &Touched) {
-    if let Some(i) = touched.went() {
-        maps::remove(t, i);
-    }
 }

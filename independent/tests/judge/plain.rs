@@ -47,7 +47,7 @@ pub fn input_of(entry: &[u8]) -> (Input, usize) {
     let answer = if entry[0] == 20 { named + 25 } else { named };
     let [number, port, value] = [entry[0], entry[1], entry[2]].map(u32::from);
     let (name, codes) = (entry[4..named].to_vec(), entry[named..answer].to_vec());
-    (Input { number, port, value, name, codes }, answer)
+    (Input { number, port, value, name, codes, ..Input::default() }, answer)
 }
 
 /// The reports of an entry that is there, from behind their count.

@@ -191,8 +191,13 @@ fn document_01_before_any_request() {
 /// Row 7 as it was: the carrier is out at once.
 #[test]
 fn carrier_out_has_no_queue() {
-    let input =
-        |number, port, value, name: &[u8]| Input { number, port, value, name: name.to_vec(), codes: vec![] };
+    let input = |number, port, value, name: &[u8]| Input {
+        number,
+        port,
+        value,
+        name: name.to_vec(),
+        ..Input::default()
+    };
     let before = [(1, 0, "A"), (13, 0, ""), (14, 0, ""), (16, 0, "A"), (18, 1, "")];
     let before = before.map(|(number, value, name)| input(number, 1, value, name.as_bytes()));
     let log = Log::of(1, 1, &before).bytes;

@@ -7,7 +7,7 @@ use independent::judge::{fits, Log, Place};
 use independent::{setup, step, Plain, Reports, Tool};
 
 fn input(number: u32, port: u32, name: &[u8], codes: &[u8]) -> Input {
-    Input { number, port, value: 0, name: name.to_vec(), codes: codes.to_vec() }
+    Input { number, port, name: name.to_vec(), codes: codes.to_vec(), ..Input::default() }
 }
 
 /// The twelve rows of document 01, byte by byte.

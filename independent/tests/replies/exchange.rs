@@ -10,12 +10,12 @@ use independent::requests::{setup, Tool};
 use independent::{Plain, Report, Reports};
 
 const DIRTY: Reports =
-    Reports { count: 200, items: [Report { model: 9, port: 9, name: [9; 16], old: 9, new: 9 }; 7] };
+    Reports { count: 200, items: [Report { model: 9, port: 9, name: [9; 16], old: 9, new: 9 }; 10] };
 
 #[test]
 fn a_bind_by_hand() {
     let mut t = Tool::NONE;
-    setup(1, 0, &mut t);
+    setup(1, 0, 0, 0, &mut t);
     let (mut out, mut room) = (DIRTY, [0xEE; 30]);
     with_texts(|texts| {
         // Too small by one: as if no message had come.
@@ -26,7 +26,7 @@ fn a_bind_by_hand() {
         // It just fits.
         let given = exchange(&mut t, &slot_map_message(), texts, &mut out, &mut room[..7]);
         assert_eq!(given, Exchanged { answer: 0, items: 34, length: 7 });
-        assert_eq!((t.base.count, out.count), (1, 5));
+        assert_eq!((t.base.count, out.count), (1, 6));
         assert_eq!((room[..7].to_vec(), &room[7..]), (vec![1, 2, 0xA5, 1, 0, 1, 0], &[0xEE; 23][..]));
         // Again: the name is taken, and in one byte less than that answer takes nothing is written.
         let given = exchange(&mut t, &slot_map_message(), texts, &mut out, &mut room);

@@ -2,10 +2,10 @@
 
 use std::collections::HashMap;
 
-use independent::gen::requests::{random_run_input, random_sound_tool};
+use independent::gen::requests::{random_run_input, random_sound_tool, step};
 use independent::gen::{padded, Input, Rng};
 use independent::requests::names::{read, NoName};
-use independent::requests::{setup, step, Tool};
+use independent::requests::{setup, Tool};
 use independent::Reports;
 
 use crate::plain::{plain_name, NAMED};
@@ -112,11 +112,11 @@ fn every_kind_is_drawn() {
     let mut rng = Rng::new(7);
     for (p, b) in [(1, 0), (4, 0), (2, 3), (4, 16)] {
         let (mut t, mut out) = (Tool::NONE, Reports::NONE);
-        setup(p, b, &mut t);
+        setup(p, b, 60, 120, &mut t);
         for _ in 0..20_000 {
             let i = random_run_input(&t, &mut rng);
             note(&mut met, "run", &t, &i);
-            step(&mut t, i.number, i.port, i.value, &i.name, &i.codes, &mut out);
+            step(&mut t, &i, &mut out);
         }
     }
     for _ in 0..40_000 {

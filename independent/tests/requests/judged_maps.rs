@@ -25,7 +25,7 @@ fn equal_is_ok_at_once() {
         assert_eq!(t, expected);
         // The host has nothing to judge, and the carrier can be accessed.
         assert_eq!(answer(&t, 5, 0, "A", &[]), 5);
-        assert_eq!(accept(&mut t, 21, 0, 0, "A"), "7 A 1>2");
+        assert_eq!(accept(&mut t, 21, 0, 0, "A"), "7 A 1>2; 8 A 2>1");
     }
 }
 
@@ -43,7 +43,7 @@ fn another_at_one_slot_asks_the_host() {
                 assert_eq!(answer(&t, 21, 0, "A", &[]), 7);
                 // As before: the host judges, and its yes is enough.
                 assert_eq!(accept(&mut t, 5, 0, 0, "A"), "6 A 2>3");
-                assert_eq!(accept(&mut t, 21, 0, 0, "A"), "7 A 1>2");
+                assert_eq!(accept(&mut t, 21, 0, 0, "A"), "7 A 1>2; 8 A 2>1");
             }
         }
     }
@@ -56,7 +56,7 @@ fn another_at_one_slot_asks_the_host() {
 fn the_host_may_refuse_as_before() {
     let mut t = opened(&THREES);
     accept_codes(&mut t, 20, 0, "A", &ONES);
-    assert_eq!(accept(&mut t, 6, 0, 0, "A"), "1 1 3>2; 6 A 2>4");
+    assert_eq!(accept(&mut t, 6, 0, 0, "A"), "1 1 3>2; 6 A 2>4; 8 A 2>1");
     assert_eq!(answer(&t, 20, 0, "A", &THREES), 5);
 }
 
@@ -65,7 +65,7 @@ fn the_host_may_refuse_as_before() {
 fn ok_at_once_may_be_cancelled() {
     let mut t = opened(&THREES);
     accept_codes(&mut t, 20, 0, "A", &THREES);
-    assert_eq!(accept(&mut t, 6, 0, 0, "A"), "1 1 3>2");
+    assert_eq!(accept(&mut t, 6, 0, 0, "A"), "1 1 3>2; 8 A 2>1");
     assert_eq!((record(&t, "A").slot, map_of(&t, "A")), (3, THREES));
 }
 
@@ -123,6 +123,7 @@ fn odd(places: u32, id: u8, slot: u8, accessing: u8, cancelled: u8) -> Tool {
         (c.place, c.port) = (1, 1);
         t.base.port[0].transfer = 3;
         t.base.port[0].tie = c.name;
+        t.predictions.of[0].state = 2;
     }
     (t.base.carrier[0], t.base.count, t.maps[0]) = (c, 1, mixed(1));
     assert!(sound(&t));

@@ -3,22 +3,24 @@
 use super::*;
 
 /// The two rows that may carry a map, with their reports.
-const ROWS: [(u32, &str); 2] =
-    [(1, "3 1 0>1; 4 1 0>1; 5 AB 0>1; 6 AB 0>1; 7 AB 0>1"), (3, "5 AB 0>1; 6 AB 0>1; 7 AB 0>1")];
+const ROWS: [(u32, &str); 2] = [
+    (1, "3 1 0>1; 4 1 0>1; 5 AB 0>1; 6 AB 0>1; 7 AB 0>1; 8 AB 0>2"),
+    (3, "5 AB 0>1; 6 AB 0>1; 7 AB 0>1; 8 AB 0>2"),
+];
 
 #[test]
 fn set_up_is_as_it_was_with_zeros_after_it() {
     for (p, b) in [(0, 0), (1, 0), (4, 16), (5, 0), (1, 17), (257, 0), (1, 256), (u32::MAX, u32::MAX)] {
         let mut t = Tool::from_bytes(&[0xAB; 3782]).unwrap();
         let mut base = independent::Tool::NONE;
-        assert_eq!(setup(p, b, &mut t), independent::setup(p, b, &mut base));
+        assert_eq!(setup(p, b, 0, 0, &mut t), independent::setup(p, b, &mut base));
         assert_eq!(t.bytes()[..1891], *base.bytes());
         assert_eq!(t.bytes()[1891..], [0; 1891]);
         let good = (1..=4).contains(&p) && b <= 16;
         assert_eq!(sound(&t), good);
         if !good {
             let mut out = Reports::NONE;
-            for number in 0..=31 {
+            for number in 0..=35 {
                 assert_eq!(step(&mut t, number, 1, 1, b"A", &THREES, &mut out), 1);
                 assert_eq!((t.bytes(), out), (&[0; 3782][..], Reports::NONE));
             }
@@ -38,7 +40,7 @@ fn layout() {
     for k in 0..3 {
         assert_eq!(bytes[1891 + 25 * k..][..25], mixed(k));
     }
-    assert!(bytes[1891 + 75..].iter().all(|&byte| byte == 0));
+    assert!(bytes[1891 + 75..1891 + 900].iter().all(|&byte| byte == 0));
 }
 
 #[test]

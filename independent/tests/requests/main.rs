@@ -7,6 +7,7 @@ mod judged_maps;
 mod kept_maps;
 mod names;
 mod plain;
+mod plain_predict;
 mod plain_queue;
 mod queue;
 mod runs;
@@ -14,6 +15,7 @@ mod soundness;
 mod waiting;
 
 use independent::gen::padded;
+use independent::gen::requests::step as step_input;
 use independent::requests::{setup, sound, step, Tool};
 use independent::{Carrier, Plain, Report, Reports};
 
@@ -28,7 +30,7 @@ fn mixed(k: usize) -> [u8; 25] {
 
 fn tool(p: u32, b: u32) -> Tool {
     let mut t = Tool::from_bytes(&[0xAB; 3782]).unwrap();
-    assert_eq!(setup(p, b, &mut t), 0);
+    assert_eq!(setup(p, b, 0, 0, &mut t), 0);
     assert!(sound(&t));
     t
 }
@@ -37,7 +39,7 @@ fn tool(p: u32, b: u32) -> Tool {
 /// nothing.
 fn give(t: &mut Tool, number: u32, port: u32, value: u32, name: &str, codes: &[u8]) -> (u32, String) {
     let dirty = Report { model: 9, port: 9, name: [9; 16], old: 9, new: 9 };
-    let mut out = Reports { count: 200, items: [dirty; 7] };
+    let mut out = Reports { count: 200, items: [dirty; 10] };
     let before = *t;
     let answer = step(t, number, port, value, name.as_bytes(), codes, &mut out);
     assert!(sound(t));

@@ -21,14 +21,14 @@ fn pad(name: &str, length: usize) -> Vec<u8> {
 /// What an input gives whose name is any text: answer, state and reports.
 fn outcome(t: &Tool, i: &Input) -> (u32, Tool, Reports) {
     let (mut after, mut out) = (*t, Reports { count: 200, ..Reports::NONE });
-    let answer = step(&mut after, i.number, i.port, i.value, &i.name, &i.codes, &mut out);
+    let answer = step_input(&mut after, i, &mut out);
     assert!(answer == 0 || same(&after, t) && out == Reports::NONE);
     (answer, after, out)
 }
 
 fn input(number: u32, port: u32, name: &[u8]) -> Input {
     let codes = if number == 20 { THREES.to_vec() } else { Vec::new() };
-    Input { number, port, value: 0, name: name.to_vec(), codes }
+    Input { number, port, name: name.to_vec(), codes, ..Input::default() }
 }
 
 fn answered(t: &Tool, number: u32, port: u32, name: &[u8]) -> u32 {
@@ -144,7 +144,7 @@ fn the_shortened_name_is_used_throughout() {
     for length in [3, 16, 17, 32] {
         let mut t = tool(1, 0);
         let padded = String::from_utf8(pad("AB", length)).unwrap();
-        assert_eq!(accept(&mut t, 3, 0, 0, &padded), "5 AB 0>1; 6 AB 0>1; 7 AB 0>1");
+        assert_eq!(accept(&mut t, 3, 0, 0, &padded), "5 AB 0>1; 6 AB 0>1; 7 AB 0>1; 8 AB 0>2");
         assert_eq!(record(&t, "AB").name, *b"AB\0\0\0\0\0\0\0\0\0\0\0\0\0\0");
         for name in ["AB", "AB ", &padded] {
             assert_eq!(answer(&t, 3, 0, name, &[]), 3);
@@ -154,7 +154,7 @@ fn the_shortened_name_is_used_throughout() {
         // Another name, of which this is the beginning.
         assert_eq!(answer(&t, 4, 0, "ABC", &[]), 2);
         assert_eq!(answer(&t, 4, 0, "A", &[]), 2);
-        assert_eq!(accept(&mut t, 4, 0, 0, &padded), "5 AB 1>0; 6 AB 1>0; 7 AB 1>0");
+        assert_eq!(accept(&mut t, 4, 0, 0, &padded), "5 AB 1>0; 6 AB 1>0; 7 AB 1>0; 8 AB 2>0");
         assert_eq!(t, tool(1, 0));
     }
 }
@@ -253,11 +253,11 @@ fn a_bad_name_is_refused_first() {
 #[test]
 fn rows_that_take_no_name() {
     let mut rng = Rng::new(15);
-    let mut met = [[0; 2]; 31];
+    let mut met = [[0; 2]; 32];
     for _ in 0..60_000 {
         let t = random_sound_tool(&mut rng);
         let i = random_run_input(&t, &mut rng);
-        if NAMED.contains(&i.number) || !(1..=30).contains(&i.number) {
+        if NAMED.contains(&i.number) || !(1..=31).contains(&i.number) {
             continue;
         }
         let plain = outcome(&t, &Input { name: Vec::new(), ..i.clone() });
@@ -266,7 +266,7 @@ fn rows_that_take_no_name() {
         met[i.number as usize][(plain.0 == 0) as usize] += 1;
     }
     println!("{met:?}");
-    for number in (1..=30).filter(|number| !NAMED.contains(number)) {
+    for number in (1..=31).filter(|number| !NAMED.contains(number)) {
         // Row 30 is never refused.
         let wanted = if number == 30 { 1.. } else { 0.. };
         assert!(met[number as usize][wanted].iter().all(|&met| met > 5), "row {number}: {met:?}");

@@ -6,10 +6,10 @@ use independent::requests::Tool;
 use independent::{Plain, Reports};
 
 use crate::common::{plain_reports, plainly_sound as plainly_sound_before};
-use crate::plain_queue;
+use crate::{plain_predict, plain_queue};
 
-/// Document 01's words; each record has 0 or 25 codes of 1 and 3; the words on the queue; unused bytes
-/// are zero.
+/// Document 01's words; each record has 0 or 25 codes of 1 and 3; the words on the queue and on
+/// predictions; unused bytes are zero.
 pub fn plainly_sound(t: &Tool) -> bool {
     plainly_sound_before(&t.base)
         && t.maps.iter().enumerate().all(|(i, map)| {
@@ -22,6 +22,7 @@ pub fn plainly_sound(t: &Tool) -> bool {
             }
         })
         && plain_queue::plainly_sound(t)
+        && plain_predict::plainly_sound(t)
         && t.unused.iter().all(|&byte| byte == 0)
 }
 
@@ -32,7 +33,7 @@ fn map_of(t: &Tool, name: [u8; 16]) -> Option<Vec<u8>> {
 }
 
 /// The rows that have a name among their parts.
-pub const NAMED: [u32; 15] = [1, 2, 3, 4, 5, 6, 7, 8, 16, 19, 20, 21, 22, 23, 29];
+pub const NAMED: [u32; 18] = [1, 2, 3, 4, 5, 6, 7, 8, 16, 19, 20, 21, 22, 23, 29, 32, 33, 34];
 
 /// The name in a text: blanks at the end go one by one.
 pub fn plain_name(text: &[u8]) -> Option<Vec<u8>> {
@@ -62,7 +63,7 @@ pub fn plain_step(before: &Tool, i: &Input) -> (u32, Tool, Reports) {
     if carries_map && !good {
         return (1, *before, Reports::NONE);
     }
-    if let Some(given) = plain_queue::step(before, &i) {
+    if let Some(given) = plain_predict::step(before, &i).or_else(|| plain_queue::step(before, &i)) {
         return given;
     }
     if let Some(refusal) = plain_queue::held(before, &i) {
@@ -83,7 +84,9 @@ pub fn plain_step(before: &Tool, i: &Input) -> (u32, Tool, Reports) {
         let map = map_of(before, c.name).unwrap_or(new);
         after.maps[k][..map.len()].copy_from_slice(&map);
     }
-    (0, after, plain_reports(&before.base, &base))
+    let mut reports = plain_reports(&before.base, &base);
+    plain_predict::after(before, &i, &mut after, &mut reports);
+    (0, after, reports)
 }
 
 /// The bytes of a state, so that a difference is one of bytes.

@@ -2,22 +2,28 @@
 
 use std::collections::HashMap;
 
-use independent::gen::requests::{describe, random_run_input, random_sound_tool};
+use independent::gen::requests::step;
+use independent::gen::requests::{describe, random_run_input, random_sound_tool, random_times};
 use independent::gen::{Input, Rng};
-use independent::requests::{setup, sound, step, step_known_sound, Tool};
+use independent::requests::{setup, sound, step_known_sound, time_step_known_sound, Tool};
 use independent::{Report, Reports};
 
 use crate::common::ALLOWED;
 use crate::plain::{plain_name, plain_step, plainly_sound, same};
 
-/// The rows that P5 changes or adds, as [`ALLOWED`] has the others. Row 30 is never refused in a sound state.
-const QUEUED: [(u32, &[u32]); 6] = [
+/// The rows that P5 and P7 change or add, as [`ALLOWED`] has the others. Row 30 is never refused in a sound
+/// state, and row 31 has no part that could be out of range.
+const ADDED: [(u32, &[u32]); 10] = [
     (7, &[0, 1, 2, 5, 9, 10]),
     (13, &[0, 1, 4, 5]),
     (27, &[0, 1, 4, 5]),
     (28, &[0, 1, 5]),
     (29, &[0, 1, 5]),
     (30, &[0]),
+    (31, &[0, 11]),
+    (32, &[0, 1, 2, 5, 11]),
+    (33, &[0, 1, 2, 5, 11]),
+    (34, &[0, 1, 2, 5, 11]),
 ];
 
 /// How often each answer to each row was met, and how often a slot map was OK at once or was asked
@@ -33,17 +39,20 @@ struct Met {
 /// Gives an input and looks at everything that holds of all inputs.
 fn checked(t: &mut Tool, i: &Input, met: &mut Met) -> u32 {
     let dirty = Report { model: 9, port: 9, name: [9; 16], old: 9, new: 9 };
-    let mut out = Reports { count: 200, items: [dirty; 7] };
+    let mut out = Reports { count: 200, items: [dirty; 10] };
     let before = *t;
-    let answer = step(t, i.number, i.port, i.value, &i.name, &i.codes, &mut out);
+    let answer = step(t, i, &mut out);
     let story = || format!("{i:?} answers {answer}\nbefore {}after {}", describe(&before), describe(t));
 
     let (plainly, after, reports) = plain_step(&before, i);
     assert!(answer == plainly && same(t, &after) && out == reports, "{}", story());
     assert!(sound(t) && plainly_sound(t), "{}", story());
 
-    let (mut again, mut out_again) = (before, Reports { count: 200, items: [dirty; 7] });
-    let known = step_known_sound(&mut again, i.number, i.port, i.value, &i.name, &i.codes, &mut out_again);
+    let (mut again, mut out_again) = (before, Reports { count: 200, items: [dirty; 10] });
+    let known = match i.number {
+        31..=34 => time_step_known_sound(&mut again, i.number, i.clock, &i.name, i.time, &mut out_again),
+        _ => step_known_sound(&mut again, i.number, i.port, i.value, &i.name, &i.codes, &mut out_again),
+    };
     assert!(known == answer && same(&again, t) && out_again == out);
 
     met.inputs += 1;
@@ -98,7 +107,8 @@ fn along_runs(met: &mut Met) {
             let mut rng = Rng::new(2000 * p as u64 + b as u64);
             let mut most = 0;
             let mut t = Tool::NONE;
-            assert_eq!(setup(p, b, &mut t), 0);
+            let (setting, timeout) = random_times(&mut rng);
+            assert_eq!(setup(p, b, setting, timeout, &mut t), 0);
             let mut history = History::default();
             for _ in 0..5_000 {
                 let i = random_run_input(&t, &mut rng);
@@ -135,7 +145,7 @@ fn every_pair_is_met_and_slot_maps_are_judged() {
             met.inputs, met.at_once, met.asked
         );
         assert!(met.at_once > 200 && met.asked > 200);
-        for (row, answers) in ALLOWED.into_iter().filter(|(row, _)| ![7, 13].contains(row)).chain(QUEUED) {
+        for (row, answers) in ALLOWED.into_iter().filter(|(row, _)| ![7, 13].contains(row)).chain(ADDED) {
             for &answer in answers {
                 assert!(met.answers.contains_key(&(row, answer)), "{kind}: row {row} never answers {answer}");
             }

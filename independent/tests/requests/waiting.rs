@@ -138,7 +138,7 @@ fn a_run_agrees() {
     for _ in 0..20_000 {
         let i = random_run_input(&t, &mut rng);
         let (before, mut out) = (t, Reports::NONE);
-        step(&mut t, i.number, i.port, i.value, &i.name, &i.codes, &mut out);
+        step_input(&mut t, &i, &mut out);
         let judged = out.as_slice().iter().any(|r| r.old == 2 && matches!(r.model, 5 | 6));
         let first = waiting(before.base.carriers()).0;
         assert!(!judged || first.is_some(), "{i:?}");

@@ -2,7 +2,7 @@
 
 use super::*;
 use independent::gen::requests::secs::{order_tree, random_message};
-use independent::gen::requests::{random_run_input, random_sound_tool};
+use independent::gen::requests::{random_run_input, random_sound_tool, step as step_input};
 use independent::gen::{Input, Rng};
 use independent::requests::secs::{secs_step, SecsAnswer};
 use independent::requests::{setup, step, Tool};
@@ -12,14 +12,14 @@ const DIRTY: Report = Report { model: 9, port: 9, name: [9; 16], old: 9, new: 9 
 
 fn tool(p: u32, b: u32) -> Tool {
     let mut t = Tool::NONE;
-    assert_eq!(setup(p, b, &mut t), 0);
+    assert_eq!(setup(p, b, 0, 0, &mut t), 0);
     t
 }
 
 /// What a message gives. It is what the input gives that it asks for; a refusal gives nothing.
 fn sent(t: &mut Tool, text: &[u8]) -> (SecsAnswer, Reports) {
     let before = *t;
-    let mut out = Reports { count: 200, items: [DIRTY; 7] };
+    let mut out = Reports { count: 200, items: [DIRTY; 10] };
     let answer = secs_step(t, text, &mut out);
     assert_eq!((answer.refusal, answer.items as usize), given(text));
     let (mut plainly, mut reports) = (before, Reports::NONE);
@@ -42,7 +42,7 @@ fn accept(t: &mut Tool, tree: Tree) -> usize {
 fn a_run_by_messages() {
     let mut t = tool(2, 0);
     let mut out = Reports::NONE;
-    assert_eq!(accept(&mut t, message("Bind", &[pair("SlotMap", slots(&[3; 25]))])), 5);
+    assert_eq!(accept(&mut t, message("Bind", &[pair("SlotMap", slots(&[3; 25]))])), 6);
     assert_eq!(t.expected_map(0), Some(&[3; 25]));
     for (number, name) in [(13, ""), (14, ""), (16, "AC")] {
         assert_eq!(step(&mut t, number, 2, 0, name.as_bytes(), &[], &mut out), 0);
@@ -50,11 +50,11 @@ fn a_run_by_messages() {
     let proceed = list(&[u1(0), ascii("ProceedWithCarrier"), ascii("AC   "), u1(0), list(&[])]);
     assert_eq!(accept(&mut t, proceed), 1);
     let cancel = list(&[u1(0), ascii("CancelCarrier"), ascii("AC"), u1(2), list(&[])]);
-    assert_eq!(accept(&mut t, cancel), 1);
+    assert_eq!(accept(&mut t, cancel), 2);
     // Row 3's port is dropped, however large.
     let notify =
         list(&[data(code::U8, &[9; 8]), ascii("CarrierNotification"), ascii("B"), u1(255), list(&[])]);
-    assert_eq!(accept(&mut t, notify), 3);
+    assert_eq!(accept(&mut t, notify), 4);
 }
 
 /// What the reader leaves to the tool is answered by the tool: names, ports, codes, and all else.
@@ -111,11 +111,12 @@ fn messages_for_inputs() {
             value: 0,
             name: order.name.to_vec(),
             codes: order.codes().to_vec(),
+            ..Input::default()
         };
         // Rows 5 and 6 have no codes, row 3 no port; no row of these has a value.
         let port = if i.number == 3 { 0 } else { i.port };
         let codes = if i.number <= 3 { i.codes.clone() } else { Vec::new() };
-        assert_eq!(input, Input { port, codes, value: 0, ..i.clone() });
+        assert_eq!(input, Input { port, codes, value: 0, clock: 0, time: 0, ..i.clone() });
         met[i.number as usize] += 1;
     }
     println!("{met:?}");
@@ -139,7 +140,7 @@ fn many_messages() {
         let mut t = tool(p, b);
         for _ in 0..10_000 {
             let i = random_run_input(&t, &mut rng);
-            step(&mut t, i.number, i.port, i.value, &i.name, &i.codes, &mut Reports::NONE.clone());
+            step_input(&mut t, &i, &mut Reports::NONE.clone());
             one(&mut t, &mut rng);
         }
     }

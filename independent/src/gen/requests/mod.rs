@@ -3,6 +3,7 @@
 mod befalls;
 mod maps;
 mod names;
+mod predict;
 mod queue;
 pub mod secs;
 mod tables;
@@ -10,16 +11,30 @@ mod tables;
 use std::string::String;
 
 use super::{Input, Rng};
-use crate::requests::{Tool, UNUSED};
+use crate::requests::predict::is_timed;
+use crate::requests::{self, Tool, UNUSED};
+use crate::Reports;
 
 pub use befalls::{befalls, BEFALLS};
 pub use names::random_text;
+pub use predict::random_times;
 pub use tables::{random_table, LONGEST_TABLE};
+
+/// Gives the tool an input, whatever its parts.
+pub fn step(t: &mut Tool, i: &Input, out: &mut Reports) -> u32 {
+    if is_timed(i.number) {
+        return requests::time_step(t, i.number, i.clock, &i.name, i.time, out);
+    }
+    requests::step(t, i.number, i.port, i.value, &i.name, &i.codes, out)
+}
 
 /// An input for this state, as a run might meet it.
 pub fn random_run_input(t: &Tool, rng: &mut Rng) -> Input {
-    let mut input = queue::draw_input(t, rng).unwrap_or_else(|| super::random_run_input(&t.base, rng));
+    let mut input = predict::draw_input(t, rng)
+        .or_else(|| queue::draw_input(t, rng))
+        .unwrap_or_else(|| super::random_run_input(&t.base, rng));
     queue::complete(t, &mut input, rng);
+    predict::complete(t, &mut input, rng);
     maps::complete(t, &mut input, rng);
     names::complete(&mut input, rng);
     input
@@ -31,6 +46,7 @@ pub fn random_sound_tool(rng: &mut Rng) -> Tool {
     let mut t = Tool { base: super::random_sound_tool(rng), ..Tool::NONE };
     maps::draw(&mut t, rng);
     queue::draw(&mut t, rng);
+    predict::draw(&mut t, rng);
     assert!(crate::requests::sound(&t), "not sound: {}", describe(&t));
     t
 }
@@ -46,8 +62,9 @@ pub fn damage(t: &mut Tool, rng: &mut Rng) {
             };
             t.unused[at as usize] = rng.pick(&[1, 1, 3, 0x80, 0xFF]);
         }
-        10..=49 => maps::damage(t, rng),
-        _ => queue::damage(t, rng),
+        10..=34 => maps::damage(t, rng),
+        35..=64 => queue::damage(t, rng),
+        _ => predict::damage(t, rng),
     }
 }
 
@@ -56,6 +73,7 @@ pub fn describe(t: &Tool) -> String {
     let mut out = super::describe(&t.base);
     maps::describe(t, &mut out);
     queue::describe(t, &mut out);
+    predict::describe(t, &mut out);
     if t.unused.iter().any(|&byte| byte != 0) {
         out.push_str("  unused bytes aren't zero\n");
     }

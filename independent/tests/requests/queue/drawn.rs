@@ -11,7 +11,7 @@ type Met = ([u32; BEFALLS.len()], [u32; 2]);
 /// Gives an input and takes note of what it was to the queue.
 fn note((befallen, kinds): &mut Met, t: &mut Tool, i: &Input) {
     let before = *t;
-    let answer = step(t, i.number, i.port, i.value, &i.name, &i.codes, &mut Reports::NONE.clone());
+    let answer = step_input(t, i, &mut Reports::NONE.clone());
     if let Some(k) = befalls(&before, i, answer) {
         befallen[k] += 1;
     }

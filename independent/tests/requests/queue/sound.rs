@@ -236,7 +236,7 @@ fn broken(t: &Tool) -> Option<&'static str> {
 fn every_word_is_broken_alone() {
     let mut rng = Rng::new(20);
     let mut met = std::collections::BTreeMap::new();
-    for _ in 0..30_000 {
+    for _ in 0..60_000 {
         let mut t = random_sound_tool(&mut rng);
         damage(&mut t, &mut rng);
         let is = compare(&t);
