@@ -9,6 +9,7 @@ mod names;
 mod plain;
 mod plain_predict;
 mod plain_queue;
+mod predict;
 mod queue;
 mod runs;
 mod soundness;

@@ -1,6 +1,7 @@
 //! Inputs and states for the tool with requests: document 01's, and what each request adds.
 
 mod befalls;
+mod foretells;
 mod maps;
 mod names;
 mod predict;
@@ -16,6 +17,7 @@ use crate::requests::{self, Tool, UNUSED};
 use crate::Reports;
 
 pub use befalls::{befalls, BEFALLS};
+pub use foretells::{foretells, FORETELLS};
 pub use names::random_text;
 pub use predict::random_times;
 pub use tables::{random_table, LONGEST_TABLE};

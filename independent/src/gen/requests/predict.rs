@@ -18,8 +18,12 @@ pub fn random_times(rng: &mut Rng) -> (u32, u32) {
         let any = rng.below(LONGEST + 1);
         rng.pick(&[0, 1, 2, 5, 60, 60, 120, 120, LONGEST - 1, LONGEST, any])
     };
-    let setting = one(rng);
-    (if rng.chance(40) { 60 } else { setting }, one(rng))
+    let setting = match rng.below(20) {
+        0..=2 => 0,
+        3..=9 => 60,
+        _ => one(rng),
+    };
+    (setting, one(rng))
 }
 
 /// One less, the time itself, one more; seldom further away.
@@ -48,15 +52,16 @@ fn clock(t: &Tool, rng: &mut Rng) -> u32 {
     let now = t.predictions.clock();
     let judged: Vec<&Prediction> =
         live(t).iter().filter(|p| p.has_tp != 0 && matches!(p.state, 3 | 4)).collect();
-    match rng.below(400) {
-        0..=25 => return now.saturating_sub(rng.pick(&[1, 1, 2, 60, u32::MAX])),
-        26 => return u32::MAX - rng.below(300),
-        27 => return u32::MAX - rng.below(300_000),
-        28..=120 => return now,
-        121..=280 if !judged.is_empty() => {
+    match rng.below(4000) {
+        0..=249 => return now.saturating_sub(rng.pick(&[1, 1, 2, 60, u32::MAX])),
+        250 => return u32::MAX - rng.below(300),
+        251 | 252 => return u32::MAX - rng.below(300_000),
+        253..=1199 => return now,
+        1200..=2999 if !judged.is_empty() => {
             let p = rng.pick(&judged);
             let time = near(decisive(t, p, rng), rng);
-            if time >= now {
+            // Times that are far away are seldom waited for.
+            if time >= now && (time - now < 3 * LONGEST || rng.chance(2)) {
                 return time;
             }
         }
@@ -66,10 +71,14 @@ fn clock(t: &Tool, rng: &mut Rng) -> u32 {
     now.saturating_add(step)
 }
 
-/// A Tp at this clock: mostly ahead, near the setting; in the past, near the timeout; or any.
+/// A Tp at this clock: mostly ahead, near the setting or another's; in the past, near the timeout; or any.
 fn tp(t: &Tool, clock: u32, rng: &mut Rng) -> u32 {
     let (setting, timeout) = (t.predictions.setting() as u64, t.predictions.timeout() as u64);
     let now = clock as u64;
+    let others: Vec<u32> = live(t).iter().filter(|p| p.state == 3).filter_map(|p| p.tp()).collect();
+    if !others.is_empty() && rng.chance(35) {
+        return near(rng.pick(&others) as u64, rng);
+    }
     match rng.below(20) {
         0..=5 => near(now + setting, rng),
         6..=12 => near(now + setting + 1 + rng.below(200) as u64, rng),
@@ -132,13 +141,26 @@ pub(super) fn draw_input(t: &Tool, rng: &mut Rng) -> Option<Input> {
     let begun = |c: &Carrier, p: &Prediction| c.accessing != 2 && matches!(p.state, 3..=5);
     match rng.below(100) {
         0..=8 => Some(timed(t, CLOCK, Vec::new(), &Prediction::NONE, rng)),
-        9..=17 => pick(t, rng, waits).map(|(name, p)| timed(t, PREDICTED_TIME, name, &p, rng)),
-        18..=24 => pick(t, rng, told).map(|(name, p)| timed(t, ESTIMATE, name, &p, rng)),
-        25 | 26 => pick(t, rng, |_, p| p.state == 3).map(|(name, p)| timed(t, NO_PREDICTION, name, &p, rng)),
-        27 | 28 => pick(t, rng, begun).map(|(name, _)| Input { number: 6, name, ..Input::default() }),
-        29..=31 => Some(any_timed(t, rng)),
+        9..=20 => pick(t, rng, waits).map(|(name, p)| timed(t, PREDICTED_TIME, name, &p, rng)),
+        21..=26 => pick(t, rng, told).map(|(name, p)| timed(t, ESTIMATE, name, &p, rng)),
+        27 | 28 => pick(t, rng, |_, p| p.state == 3).map(|(name, p)| timed(t, NO_PREDICTION, name, &p, rng)),
+        29 | 30 => pick(t, rng, begun).map(|(name, _)| of(6, name)),
+        31 => pick(t, rng, |c, _| c.open != 0 && c.accessing > 2).map(|(name, _)| of(23, name)),
+        32 => cancel_unknown(t, rng),
+        33..=35 => Some(any_timed(t, rng)),
         _ => None,
     }
+}
+
+fn of(number: u32, name: Vec<u8>) -> Input {
+    Input { number, name, ..Input::default() }
+}
+
+/// CancelCarrier for an unknown pod, which mostly makes the record.
+fn cancel_unknown(t: &Tool, rng: &mut Rng) -> Option<Input> {
+    let unknown = |port: &Port| port.pod != 0 && port.idle() && port.tag == tag::FAILED && !port.tied();
+    let p = t.base.port[..t.base.ports as usize].iter().position(unknown)?;
+    Some(Input { port: p as u32 + 1, ..of(6, pool_name(rng.below(POOL))) })
 }
 
 /// An input that brings the clock, for any carrier.
@@ -176,10 +198,21 @@ pub(super) fn draw(t: &mut Tool, rng: &mut Rng) {
     if t.base.places > 0 {
         return;
     }
+    for port in t.base.port[..t.base.ports as usize].iter_mut().filter(|port| !port.tied()) {
+        if rng.chance(15) {
+            (port.transfer, port.movement) = (transfer::BLOCKED, movement::NONE);
+            (port.pod, port.tag) = (1, tag::FAILED);
+        }
+    }
     let having = rng.pick(&[0, 30, 70, 100, 100]);
     let strange = rng.pick(&[0, 10, 60]);
     for i in 0..t.base.count as usize {
-        let c = t.base.carrier[i];
+        let c = &mut t.base.carrier[i];
+        let may_begin = c.open != 0 && rng.chance(35);
+        if may_begin {
+            (c.accessing, c.slot) = (accessing::NOT_ACCESSED, status::OK);
+        }
+        let c = *c;
         let mut p = Prediction { state: state(t, &c, rng), ..Prediction::NONE };
         if rng.chance(if c.at_port() { having } else { strange.min(having) }) {
             p.set_tp(tp(t, clock, rng));
@@ -187,13 +220,16 @@ pub(super) fn draw(t: &mut Tool, rng: &mut Rng) {
         if rng.chance(if p.has_tp != 0 { having / 2 } else { strange / 3 }) {
             p.set_te(te(t, &p, rng));
         }
+        if may_begin {
+            p.state = state::WAITING_FOR_CARRIER;
+        }
         t.predictions.of[i] = p;
     }
 }
 
 /// A state that a sound tool may have for a carrier.
 fn state(t: &Tool, c: &Carrier, rng: &mut Rng) -> u8 {
-    if !c.at_port() || rng.chance(15) {
+    if !c.at_port() || rng.chance(20) {
         return state::WAITING_FOR_CARRIER;
     }
     if t.base.port[c.port as usize - 1].transfer == transfer::READY_TO_UNLOAD {
