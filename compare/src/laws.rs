@@ -6,6 +6,7 @@ use independent::Plain;
 
 use crate::machine::{Bridged, Outcome};
 use crate::pairs::may_answer;
+use crate::predict;
 use crate::queue;
 use crate::script::tabled;
 
@@ -16,7 +17,7 @@ pub fn unlawful(before: &Tool, input: &Input, o: &Outcome) -> Option<String> {
     }
     let past = o.reports.bytes().get(1 + 20 * o.reports.count as usize..);
     if past.is_none_or(|entries| entries.iter().any(|&byte| byte != 0)) {
-        return Some("at most seven reports, and zeros past the count".into());
+        return Some("at most ten reports, and zeros past the count".into());
     }
     if !o.accepted() && (o.reports.count != 0 || o.tool.bytes() != before.bytes()) {
         return Some("a refusal changes no state and leaves no report".into());
@@ -25,10 +26,11 @@ pub fn unlawful(before: &Tool, input: &Input, o: &Outcome) -> Option<String> {
         .or_else(|| badly_carried(input, o))
         .or_else(|| badly_judged(before, input, o))
         .or_else(|| queue::unlawful(before, input, o))
+        .or_else(|| predict::unlawful(before, input, o))
 }
 
 /// The rows that take a name.
-const NAMED: [u32; 15] = [1, 2, 3, 4, 5, 6, 7, 8, 16, 19, 20, 21, 22, 23, 29];
+const NAMED: [u32; 18] = [1, 2, 3, 4, 5, 6, 7, 8, 16, 19, 20, 21, 22, 23, 29, 32, 33, 34];
 
 /// P4: the bytes before the blanks at the end of a text.
 pub fn shortened(mut text: &[u8]) -> &[u8] {

@@ -1,12 +1,36 @@
 //! The two programs behind one face: the proved machine, by its C interface, and the independent program.
 
 use hawsermole::raw::{self, REPORTS_BYTES, TOOL_BYTES};
-use independent::gen::Input;
+use independent::gen::{requests as gen, Input};
+use independent::requests::predict::is_timed;
 use independent::requests::{self, secs, Tool};
 use independent::{Plain, Reports};
 
+use crate::library;
+
+/// The numbers of a set-up.
+#[derive(Clone, Copy, Debug, Default, PartialEq, Eq)]
+pub struct SetUp {
+    pub ports: u32,
+    pub places: u32,
+    pub setting: u32,
+    pub timeout: u32,
+}
+
+impl SetUp {
+    /// Without a setting time and a timeout.
+    pub fn of(ports: u32, places: u32) -> SetUp {
+        SetUp { ports, places, ..SetUp::default() }
+    }
+
+    /// A tool without a buffer, with these times.
+    pub fn fixed(ports: u32, setting: u32, timeout: u32) -> SetUp {
+        SetUp { ports, places: 0, setting, timeout }
+    }
+}
+
 pub trait Machine {
-    fn setup(&self, ports: u32, places: u32, tool: &mut Tool) -> u32;
+    fn setup(&self, of: SetUp, tool: &mut Tool) -> u32;
     fn step(&self, tool: &mut Tool, input: &Input, reports: &mut Reports) -> u32;
     fn sound(&self, tool: &Tool) -> u32;
     /// How many bytes of a text are its name; 0 where there is none.
@@ -37,12 +61,16 @@ impl Proved {
 }
 
 impl Machine for Proved {
-    fn setup(&self, ports: u32, places: u32, tool: &mut Tool) -> u32 {
+    fn setup(&self, of: SetUp, tool: &mut Tool) -> u32 {
         // SAFETY: the sizes agree.
-        unsafe { raw::hm_setup(lent(tool), ports, places) }
+        unsafe { library::setup(of, tool) }
     }
 
     fn step(&self, tool: &mut Tool, i: &Input, reports: &mut Reports) -> u32 {
+        if is_timed(i.number) {
+            // SAFETY: the sizes agree.
+            return unsafe { library::time_step(tool, i, reports) };
+        }
         // SAFETY: the sizes agree.
         unsafe { raw::step(lent(tool), lent(reports), i.number, i.port, i.value, &i.name, &i.codes) }
     }
@@ -73,12 +101,12 @@ pub fn lent<const N: usize>(to: &mut impl Plain) -> &mut [u8; N] {
 pub struct Independent;
 
 impl Machine for Independent {
-    fn setup(&self, ports: u32, places: u32, tool: &mut Tool) -> u32 {
-        requests::setup(ports, places, tool)
+    fn setup(&self, of: SetUp, tool: &mut Tool) -> u32 {
+        requests::setup(of.ports, of.places, of.setting, of.timeout, tool)
     }
 
     fn step(&self, tool: &mut Tool, input: &Input, reports: &mut Reports) -> u32 {
-        requests::step(tool, input.number, input.port, input.value, &input.name, &input.codes, reports)
+        gen::step(tool, input, reports)
     }
 
     fn sound(&self, tool: &Tool) -> u32 {
@@ -141,9 +169,9 @@ pub fn bridged(machine: &dyn Machine, tool: &Tool, message: &[u8]) -> Bridged {
     Bridged { outcome, heard }
 }
 
-pub fn set_up(machine: &dyn Machine, ports: u32, places: u32) -> (u32, Tool) {
+pub fn set_up(machine: &dyn Machine, of: SetUp) -> (u32, Tool) {
     let mut tool = left_over();
-    let answer = machine.setup(ports, places, &mut tool);
+    let answer = machine.setup(of, &mut tool);
     (answer, tool)
 }
 
@@ -154,9 +182,9 @@ pub struct Both<'a> {
 }
 
 impl Both<'_> {
-    pub fn setup(&self, ports: u32, places: u32) -> Option<(u32, Tool)> {
-        let (answer, tool) = set_up(self.proved, ports, places);
-        let (other, another) = set_up(self.independent, ports, places);
+    pub fn setup(&self, of: SetUp) -> Option<(u32, Tool)> {
+        let (answer, tool) = set_up(self.proved, of);
+        let (other, another) = set_up(self.independent, of);
         (answer == other && tool.bytes() == another.bytes()).then_some((answer, tool))
     }
 
@@ -174,6 +202,7 @@ impl Both<'_> {
         let length = self.proved.name(text);
         (length == self.independent.name(text)).then_some(length)
     }
+
     pub fn secs(&self, tool: &Tool, message: &[u8]) -> Option<Bridged> {
         let one = bridged(self.proved, tool, message);
         let other = bridged(self.independent, tool, message);

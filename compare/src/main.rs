@@ -1,5 +1,5 @@
 //! Plays the same inputs to the proved machine and to the independent program, and compares answer, whole state,
-//! all seven report entries and the count, byte for byte. A difference is shown by the shortest script that shows
+//! all ten report entries and the count, byte for byte. A difference is shown by the shortest script that shows
 //! it, and ends the comparison with status 1.
 //!
 //! `compare [N]`: some N inputs in each of the large parts; 100,000 where no N is given. Messages are a fifth of N up
@@ -7,10 +7,12 @@
 
 mod answer;
 mod laws;
+mod library;
 mod machine;
 mod pairs;
 mod parts;
 mod play;
+mod predict;
 mod queue;
 mod script;
 mod shrink;
@@ -28,8 +30,8 @@ use machine::{Both, Independent, Proved};
 use parts::judge::Judges;
 use parts::waiting::Looks;
 use parts::{
-    damaged, edges, judge, maps, messages, names, odd, out, replies, runs, setups, small, states, twelve,
-    waiting,
+    damaged, edges, foretold, judge, maps, messages, names, odd, out, replies, runs, setups, small, states,
+    twelve, waiting,
 };
 use play::Finding;
 use table::Table;
@@ -91,16 +93,21 @@ fn compare(
     table.line("names padded with blanks", &names::compare(both)?);
     table.texts = names::texts(both, total, &mut rng)?;
     table.line("a queue for CarrierOut", &out::compare(both)?);
-    table.line("every state of small tools with a queue", &small::compare(both)?);
+    table.line("prediction of ready to unload", &foretold::compare(both)?);
+    table.line("every state of small tools with a queue", &small::queues(both)?);
+    table.line("every state of small tools that foretell", &small::predictions(both)?);
     table.line("set-ups in and out of range", &setups::compare(both, &mut rng)?);
     let along_runs = runs::compare(both, total, &mut rng)?;
     table.line("random runs, every P and B", &along_runs);
     (table.along_runs, table.runs_accepted) = (along_runs.pairs, along_runs.percent());
+    let without_buffer = runs::without_buffer(both, total, &mut rng)?;
+    table.line("random runs with predictions, B = 0", &without_buffer);
     let from_states = states::compare(both, total, &mut rng)?;
     table.line("inputs from random sound states", &from_states);
     table.at_once = [along_runs.at_once, from_states.at_once];
     table.padded = [along_runs.padded, from_states.padded];
     table.befallen = [along_runs.befallen, from_states.befallen];
+    table.foretold = [without_buffer.foretold, from_states.foretold];
     table.damage("every byte damaged", &damaged::every_byte(both, total, &mut rng)?);
     table.damage("parts mixed up", &damaged::mixed_up(both, total / 4, &mut rng)?);
     table.damage("random bytes", &damaged::random_bytes(both, total / 8, &mut rng)?);

@@ -1,11 +1,13 @@
-//! Which answers each row has given: the documents allow 117 pairs of a row and an answer to a sound tool.
+//! Which answers each row has given: the documents allow 134 pairs of a row and an answer to a sound tool.
 //!
 //! P1 adds none to document 01's 104: a map that can't be expected is 1, which rows 1 and 3 had already, and row 20 has
 //! no new number. That a slot map was OK at once shows in no pair, and is counted by itself. P5 takes 4 from row 7 and
-//! gives it 9 and 10, gives 4 to row 13, and adds four rows: 13 pairs more. Rows 12 and 19 had 4 and 5 already.
+//! gives it 9 and 10, gives 4 to row 13, and adds four rows: 13 pairs more. Rows 12 and 19 had 4 and 5 already. P7
+//! adds four rows, 17 pairs.
 
-/// Each row's answers to a sound tool: 0, 1, and what its text names. Row 30 has no part that could be out of range.
-pub const ALLOWED: [&[u32]; 30] = [
+/// Each row's answers to a sound tool: 0, 1, and what its text names. Rows 30 and 31 have no part that could be out
+/// of range.
+pub const ALLOWED: [&[u32]; 34] = [
     &[0, 1, 3, 4, 5, 6],
     &[0, 1, 2, 5],
     &[0, 1, 3, 6],
@@ -36,6 +38,10 @@ pub const ALLOWED: [&[u32]; 30] = [
     &[0, 1, 5],
     &[0, 1, 5],
     &[0],
+    &[0, 11],
+    &[0, 1, 2, 5, 11],
+    &[0, 1, 2, 5, 11],
+    &[0, 1, 2, 5, 11],
 ];
 
 /// How many pairs the documents allow.
@@ -50,8 +56,14 @@ pub fn may_answer(number: u32, answer: u32) -> bool {
 }
 
 /// The pairs met, as a bit for each answer in a row's word.
-#[derive(Clone, Copy, Default)]
+#[derive(Clone, Copy)]
 pub struct Pairs([u16; ALLOWED.len()]);
+
+impl Default for Pairs {
+    fn default() -> Pairs {
+        Pairs([0; ALLOWED.len()])
+    }
+}
 
 impl Pairs {
     /// Takes note of an answer that a sound tool may give; another is no pair.
@@ -79,10 +91,11 @@ mod tests {
     use super::*;
 
     #[test]
-    fn the_documents_allow_117_pairs() {
-        assert_eq!(allowed(), 117);
-        assert!(may_answer(19, 7) && !may_answer(19, 6) && !may_answer(31, 0) && may_answer(0, 1));
+    fn the_documents_allow_134_pairs() {
+        assert_eq!(allowed(), 134);
+        assert!(may_answer(19, 7) && !may_answer(19, 6) && !may_answer(35, 0) && may_answer(0, 1));
         assert!(may_answer(7, 10) && !may_answer(7, 4) && may_answer(13, 4) && may_answer(30, 1));
+        assert!(may_answer(31, 11) && !may_answer(31, 5) && may_answer(34, 11) && !may_answer(34, 12));
     }
 
     #[test]
@@ -93,9 +106,9 @@ mod tests {
                 pairs.meet(row as u32 + 1, answer);
             }
         }
-        for number in [0, 30, 31] {
+        for number in [0, 30, 31, 35] {
             pairs.meet(number, 1);
         }
-        assert_eq!((pairs.met(), pairs.missing()), (116, vec![(21, 7)]));
+        assert_eq!((pairs.met(), pairs.missing()), (133, vec![(21, 7)]));
     }
 }

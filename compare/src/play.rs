@@ -4,8 +4,9 @@ use independent::gen::Input;
 use independent::requests::Tool;
 
 use crate::laws::{padded, unlawful};
-use crate::machine::{Both, Outcome};
+use crate::machine::{Both, Outcome, SetUp};
 use crate::pairs::Pairs;
+use crate::predict::Foretold;
 use crate::queue::Befallen;
 use crate::script::{tabled, Run};
 
@@ -35,7 +36,8 @@ pub enum Finding {
 }
 
 /// How many inputs were compared, how many of them were accepted, which pairs were met, how many slot maps
-/// were OK at once, how many accepted inputs had a name with blanks at its end, and what befell the queues.
+/// were OK at once, how many accepted inputs had a name with blanks at its end, and what befell the queues and the
+/// predictions.
 #[derive(Clone, Copy, Default)]
 pub struct Tally {
     pub inputs: u64,
@@ -44,6 +46,7 @@ pub struct Tally {
     pub at_once: u64,
     pub padded: u64,
     pub befallen: Befallen,
+    pub foretold: Foretold,
 }
 
 impl Tally {
@@ -54,6 +57,7 @@ impl Tally {
         self.at_once += ok_at_once(input, o) as u64;
         self.padded += (o.accepted() && padded(input)) as u64;
         self.befallen.note(before, input, o);
+        self.foretold.note(before, input, o);
     }
 
     pub fn percent(&self) -> f64 {
@@ -89,14 +93,19 @@ pub struct Player<'a> {
 }
 
 impl<'a> Player<'a> {
+    /// A set-up without a setting time and a timeout.
     pub fn begin(
         both: &'a Both,
         tally: &'a mut Tally,
         ports: u32,
         places: u32,
     ) -> Result<Player<'a>, Finding> {
-        let run = Run { ports, places, inputs: Vec::new() };
-        match both.setup(ports, places) {
+        Player::set_up(both, tally, SetUp::of(ports, places))
+    }
+
+    pub fn set_up(both: &'a Both, tally: &'a mut Tally, setup: SetUp) -> Result<Player<'a>, Finding> {
+        let run = Run { setup, inputs: Vec::new() };
+        match both.setup(setup) {
             Some((answer, tool)) => Ok(Player { both, tally, run, answer, tool }),
             None => Err(Finding::Run(run)),
         }

@@ -3,23 +3,24 @@
 use std::fmt::Write;
 
 use independent::gen::Input;
+use independent::requests::predict::{Prediction, Predictions};
 use independent::requests::queue::{Queue, Request};
 use independent::requests::Tool;
 use independent::{Plain, Reports};
 
-use crate::machine::Outcome;
+use crate::machine::{Outcome, SetUp};
 
 /// A set-up and the inputs after it.
 #[derive(Clone, Debug, PartialEq)]
 pub struct Run {
-    pub ports: u32,
-    pub places: u32,
+    pub setup: SetUp,
     pub inputs: Vec<Input>,
 }
 
 impl Run {
     pub fn script(&self) -> String {
-        let mut out = format!("setup {} {}\n", self.ports, self.places);
+        let SetUp { ports, places, setting, timeout } = self.setup;
+        let mut out = format!("setup {ports} {places}{}\n", missing(setting, timeout));
         for input in &self.inputs {
             let _ = writeln!(out, "{}", line(input));
         }
@@ -34,8 +35,18 @@ pub fn hex(bytes: &[u8]) -> String {
     bytes.iter().map(|byte| format!("{byte:02x}")).collect()
 }
 
+/// The last two numbers of a line: those that are 0 may be missing.
+fn missing(one: u32, other: u32) -> String {
+    match (one, other) {
+        (0, 0) => String::new(),
+        (_, 0) => format!(" {one}"),
+        _ => format!(" {one} {other}"),
+    }
+}
+
 pub fn line(i: &Input) -> String {
-    format!("in {} {} {} {} {}", i.number, i.port, i.value, hex(&i.name), hex(&i.codes))
+    let (name, codes, times) = (hex(&i.name), hex(&i.codes), missing(i.clock, i.time));
+    format!("in {} {} {} {name} {codes}{times}", i.number, i.port, i.value)
 }
 
 /// ANSWER COUNT [MODEL SUBJECT OLD NEW; ..]
@@ -82,10 +93,13 @@ const MAPS: usize = size_of::<independent::Tool>();
 const MAP: usize = 25;
 const QUEUE: usize = MAPS + 36 * MAP;
 const REQUEST: usize = size_of::<Request>();
-const UNUSED: usize = QUEUE + size_of::<Queue>();
+const TIMES: usize = QUEUE + size_of::<Queue>();
+const PREDICTION: usize = size_of::<Prediction>();
+const PREDICTED: usize = TIMES + 3 * 4;
+const UNUSED: usize = TIMES + size_of::<Predictions>();
 
 /// A tool's bytes: its head, its ports, the records up to the last that isn't zero, the expected maps, the requests,
-/// and what is not zero of the bytes that should be.
+/// the clock and the predictions, and what is not zero of the bytes that should be.
 pub fn bytes(tool: &Tool) -> String {
     let all = tool.base.bytes();
     let mut out = format!("  head      {}\n", hex(&all[..HEAD]));
@@ -102,6 +116,7 @@ pub fn bytes(tool: &Tool) -> String {
         let _ = writeln!(out, "  map {name} {} (record {})", hex(map), k + 1);
     }
     out += &requests(tool);
+    out += &predictions(tool);
     if let Some(last) = tool.unused.iter().rposition(|&byte| byte != 0) {
         let _ = writeln!(out, "  unused    {}", hex(&tool.unused[..=last]));
     }
@@ -120,6 +135,23 @@ fn requests(tool: &Tool) -> String {
     }
     if tool.queue.count as usize != used {
         let _ = writeln!(out, "  requests  {}", tool.queue.count);
+    }
+    out
+}
+
+/// The clock, setting and timeout, and each prediction that isn't zero: its state, Tp and Te, and its bytes where these
+/// are no good ones.
+fn predictions(tool: &Tool) -> String {
+    let p = &tool.predictions;
+    if *p == Predictions::NONE {
+        return String::new();
+    }
+    let mut out = format!("  time {} {} {}\n", p.clock(), p.setting(), p.timeout());
+    let time = |time: Option<u32>| time.map_or("-".into(), |time| time.to_string());
+    for (k, p) in p.of.iter().enumerate().filter(|(_, p)| **p != Prediction::NONE) {
+        let name = hex(unpadded(&tool.base.carrier[k].name));
+        let (state, tp, te) = (p.state, time(p.tp()), time(p.te()));
+        let _ = writeln!(out, "  predict {name} {state} {tp} {te} (record {}: {})", k + 1, hex(p.bytes()));
     }
     out
 }
@@ -162,6 +194,14 @@ fn field_of_requests(at: usize) -> String {
     if at >= UNUSED {
         return "unused".into();
     }
+    if at >= PREDICTED {
+        let (k, at) = ((at - PREDICTED) / PREDICTION, (at - PREDICTED) % PREDICTION);
+        let what = ["prediction", "has Tp", "has Te", "Tp", "Te"][if at < 3 { at } else { 3 + (at - 3) / 4 }];
+        return format!("record {} {what}", k + 1);
+    }
+    if at >= TIMES {
+        return ["clock", "setting", "timeout"][(at - TIMES) / 4].into();
+    }
     let (k, at) = ((at - QUEUE - 1) / REQUEST, (at - QUEUE - 1) % REQUEST);
     let what = match at {
         16 => "port",
@@ -178,19 +218,29 @@ mod tests {
 
     #[test]
     fn lines_are_the_command_lines() {
-        let input = Input { number: 20, port: 0, value: 7, name: b"AB".to_vec(), codes: vec![3, 255] };
-        let run = Run {
-            ports: 2,
-            places: 16,
+        let codes = vec![3, 255];
+        let input = Input { number: 20, value: 7, name: b"AB".to_vec(), codes, ..Input::default() };
+        let mut run = Run {
+            setup: SetUp::of(2, 16),
             inputs: vec![input, Input { number: 13, port: 1, ..Input::default() }],
         };
         assert_eq!(run.script(), "setup 2 16\nin 20 0 7 4142 03ff\nin 13 1 0 - -\n");
+        let timed = |clock, time| Input { number: 31, clock, time, ..Input::default() };
+        run = Run {
+            setup: SetUp::fixed(1, 0, 9),
+            inputs: vec![timed(0, 0), timed(7, 0), timed(0, 8), timed(7, 8)],
+        };
+        let lines =
+            ["setup 1 0 0 9", "in 31 0 0 - -", "in 31 0 0 - - 7", "in 31 0 0 - - 0 8", "in 31 0 0 - - 7 8"];
+        assert_eq!(run.script(), format!("{}\n", lines.join("\n")));
+        run = Run { setup: SetUp::fixed(1, 60, 0), inputs: vec![] };
+        assert_eq!(run.script(), "setup 1 0 60\n");
     }
 
     #[test]
     fn outcomes_in_both_forms() {
         let mut o = Outcome { answer: 0, tool: Tool::NONE, reports: Reports::NONE };
-        setup(2, 0, &mut o.tool);
+        setup(2, 1, 0, 0, &mut o.tool);
         o.answer = step(&mut o.tool, 1, 2, 0, b"AB", &[], &mut o.reports);
         assert_eq!(printed(&o), "0 5 [3 2 0 1; 4 2 0 1; 5 4142 0 1; 6 4142 0 1; 7 4142 0 1]");
         assert_eq!(tabled(&o.reports), "3 2 0>1; 4 2 0>1; 5 AB 0>1; 6 AB 0>1; 7 AB 0>1");
@@ -204,6 +254,22 @@ mod tests {
         let named = |tool: &Tool| field(tool.bytes().iter().position(|&b| b != 0).unwrap());
         tool.unused[0] = 1;
         assert_eq!(named(&tool), "unused");
+        tool.predictions.of[35].te[3] = 1;
+        assert_eq!(named(&tool), "record 36 Te");
+        tool.predictions.of[35].tp[0] = 1;
+        assert_eq!(named(&tool), "record 36 Tp");
+        tool.predictions.of[35].has_te = 1;
+        assert_eq!(named(&tool), "record 36 has Te");
+        tool.predictions.of[0].has_tp = 1;
+        assert_eq!(named(&tool), "record 1 has Tp");
+        tool.predictions.of[0].state = 1;
+        assert_eq!(named(&tool), "record 1 prediction");
+        tool.predictions.timeout[3] = 1;
+        assert_eq!(named(&tool), "timeout");
+        tool.predictions.setting[0] = 1;
+        assert_eq!(named(&tool), "setting");
+        tool.predictions.clock[3] = 1;
+        assert_eq!(named(&tool), "clock");
         tool.queue.request[15].started = 1;
         assert_eq!(named(&tool), "request 16 started");
         tool.queue.request[15].port = 1;
@@ -232,7 +298,7 @@ mod tests {
     #[test]
     fn maps_are_shown_with_their_names() {
         let mut tool = Tool::NONE;
-        setup(1, 0, &mut tool);
+        setup(1, 1, 0, 0, &mut tool);
         let shown = |tool: &Tool| bytes(tool).lines().map(String::from).collect::<Vec<_>>();
         let plain = shown(&tool);
         assert_eq!((plain.len(), plain[5].as_str()), (6, "  and zeros to the end"));
@@ -263,6 +329,19 @@ mod tests {
         assert!(requests(&tool).ends_with("(request 16)\n  requests  17\n"), "{}", requests(&tool));
         tool.queue.count = 1;
         assert_eq!(requests(&tool), format!("{both}  requests  1\n"));
-        assert_eq!((QUEUE, UNUSED), (2791, 3080));
+        assert_eq!((QUEUE, TIMES, PREDICTED, UNUSED), (2791, 3080, 3092, 3488));
+    }
+
+    #[test]
+    fn predictions_are_shown_as_the_command_line_does() {
+        let mut tool = Tool::NONE;
+        assert_eq!(predictions(&tool), "");
+        setup(1, 0, 60, 120, &mut tool);
+        assert_eq!(predictions(&tool), "  time 0 60 120\n");
+        step(&mut tool, 3, 0, 0, b"AB", &[], &mut Reports::NONE.clone());
+        tool.predictions.of[0].set_te(9);
+        tool.predictions.clock = [0, 1, 0, 0];
+        let record = "(record 1: 0200010000000009000000)";
+        assert_eq!(predictions(&tool), format!("  time 256 60 120\n  predict 4142 2 - 9 {record}\n"));
     }
 }

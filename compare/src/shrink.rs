@@ -1,18 +1,19 @@
 //! The shortest script that still shows a difference.
 
 use independent::gen::Input;
+use independent::requests::predict::Prediction;
 use independent::requests::queue::{Request, MAX_REQUESTS};
 use independent::requests::Tool;
 use independent::Carrier;
 
 use crate::laws::{shortened, unlawful};
-use crate::machine::{Both, Outcome};
+use crate::machine::{Both, Outcome, SetUp};
 use crate::script::Run;
 
 /// After how many inputs of the run the programs differ, or are both against the documents:
 /// 0 where they differ at the set-up.
 pub fn differs_after(both: &Both, run: &Run) -> Option<usize> {
-    let Some((_, mut tool)) = both.setup(run.ports, run.places) else {
+    let Some((_, mut tool)) = both.setup(run.setup) else {
         return Some(0);
     };
     for (k, input) in run.inputs.iter().enumerate() {
@@ -51,6 +52,7 @@ pub fn shortest(both: &Both, run: &Run) -> Run {
         rename(both, &mut best);
         shrink_setup(both, &mut best);
         plainer_maps(both, &mut best);
+        earlier(both, &mut best);
         plainer_inputs(both, &mut best);
         if best == before {
             return best;
@@ -102,13 +104,25 @@ fn drop_twos(both: &Both, best: &mut Run) {
 }
 
 fn shrink_setup(both: &Both, best: &mut Run) {
-    for ports in 1..best.ports.min(5) {
-        if take(both, best, Run { ports, ..best.clone() }) {
+    let with = |best: &Run, setup: SetUp| Run { setup, ..best.clone() };
+    let was = best.setup;
+    for ports in 1..was.ports.min(5) {
+        if take(both, best, with(best, SetUp { ports, ..best.setup })) {
             break;
         }
     }
-    for places in 0..best.places.min(17) {
-        if take(both, best, Run { places, ..best.clone() }) {
+    for places in 0..was.places.min(17) {
+        if take(both, best, with(best, SetUp { places, ..best.setup })) {
+            break;
+        }
+    }
+    for setting in smaller(was.setting) {
+        if take(both, best, with(best, SetUp { setting, ..best.setup })) {
+            break;
+        }
+    }
+    for timeout in smaller(was.timeout) {
+        if take(both, best, with(best, SetUp { timeout, ..best.setup })) {
             break;
         }
     }
@@ -154,15 +168,40 @@ fn plainer_maps(both: &Both, best: &mut Run) {
     }
 }
 
+/// Smaller numbers, the smallest first.
+fn smaller(number: u32) -> Vec<u32> {
+    let least = if number <= 100 { number.saturating_sub(1) } else { number };
+    let all = [0, 1, 2, 10, number / 1000, number / 2, least];
+    all.into_iter().filter(|&one| one < number).collect()
+}
+
+/// A later time made smaller in all inputs at once: those that are near each other stay so.
+fn earlier(both: &Both, best: &mut Run) {
+    let all = best.inputs.iter().flat_map(|i| [i.clock, i.time]);
+    let Some(most) = all.max() else { return };
+    for by in [most, most / 2, most / 10] {
+        let mut candidate = best.clone();
+        for input in &mut candidate.inputs {
+            input.clock = input.clock.saturating_sub(by);
+            input.time = input.time.saturating_sub(by);
+        }
+        if by > 0 && candidate != *best && take(both, best, candidate) {
+            return;
+        }
+    }
+}
+
 /// The same input with one part left out or made small.
 fn plainer(input: &Input) -> Vec<Input> {
     let with = |port, value, name: &[u8], codes: &[u8]| Input {
-        number: input.number,
         port,
         value,
         name: name.to_vec(),
         codes: codes.to_vec(),
+        ..input.clone()
     };
+    let clocks = smaller(input.clock).into_iter().map(|clock| Input { clock, ..input.clone() });
+    let times = smaller(input.time).into_iter().map(|time| Input { time, ..input.clone() });
     let (port, value, name, codes) = (input.port, input.value, &input.name[..], &input.codes[..]);
     let all = [
         with(port, value, name, &[]),
@@ -181,9 +220,9 @@ fn plainer(input: &Input) -> Vec<Input> {
     ];
     let size = |i: &Input| {
         let sum: u32 = i.codes.iter().map(|&code| code as u32).sum();
-        (i.codes.len(), sum, i.name.len(), i.port, i.value)
+        (i.codes.len(), sum, i.name.len(), i.port, i.value, i.clock, i.time)
     };
-    all.into_iter().filter(|one| size(one) < size(input)).collect()
+    all.into_iter().chain(clocks).chain(times).filter(|one| size(one) < size(input)).collect()
 }
 
 fn plainer_inputs(both: &Both, best: &mut Run) {
@@ -211,7 +250,7 @@ fn without_request(tool: &Tool, k: usize) -> Tool {
     tool
 }
 
-/// The state without record `i`, its tie, its map and its request; sound if the state was.
+/// The state without record `i`, its tie, its map, its prediction and its request; sound if the state was.
 fn without(tool: &Tool, i: usize) -> Tool {
     let name = tool.base.carrier[i].name;
     let asked = tool.queue.requests().iter().position(|r| r.name == name);
@@ -227,6 +266,8 @@ fn without(tool: &Tool, i: usize) -> Tool {
     base.count -= 1;
     tool.maps.copy_within(i + 1..count, i);
     tool.maps[count - 1] = [0; 25];
+    tool.predictions.of.copy_within(i + 1..count, i);
+    tool.predictions.of[count - 1] = Prediction::NONE;
     tool
 }
 

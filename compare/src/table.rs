@@ -2,7 +2,7 @@
 
 use std::process::ExitCode;
 
-use independent::gen::requests::BEFALLS;
+use independent::gen::requests::{BEFALLS, FORETELLS};
 
 use crate::pairs::{allowed, Pairs};
 use crate::parts::damaged::Damage;
@@ -12,6 +12,7 @@ use crate::parts::names::Texts;
 use crate::parts::replies::Replies;
 use crate::parts::waiting::Tables;
 use crate::play::Tally;
+use crate::predict::Foretold;
 use crate::queue::Befallen;
 
 /// Runs that refuse most of what they are given would show little.
@@ -28,6 +29,8 @@ pub struct Table {
     pub padded: [u64; 2],
     /// What befell the queues, along the runs and from states.
     pub befallen: [Befallen; 2],
+    /// What befell the predictions, along the runs without a buffer and from states.
+    pub foretold: [Foretold; 2],
     pub texts: Texts,
     pub tables: Tables,
     pub messages: Messages,
@@ -73,10 +76,13 @@ impl Table {
     fn unmet(&self) -> Vec<String> {
         let pairs = self.along_runs.missing().iter().map(|(row, answer)| format!("{row} {answer}")).collect();
         let [queues_of_runs, queues_of_states] = self.befallen;
-        let parts: [(&str, Vec<String>); 6] = [
+        let [predictions_of_runs, predictions_of_states] = self.foretold;
+        let parts: [(&str, Vec<String>); 8] = [
             ("along the runs, row and answer", pairs),
             ("along the runs, by a queue", queues_of_runs.unmet()),
             ("from states, by a queue", queues_of_states.unmet()),
+            ("along the runs, by a prediction", predictions_of_runs.unmet()),
+            ("from states, by a prediction", predictions_of_states.unmet()),
             ("among the messages", self.messages.unmet()),
             ("among the messages that are answered", self.replies.unmet()),
             ("among the logs", self.logs.unmet()),
@@ -105,6 +111,10 @@ impl Table {
         println!("{runs} padded names were accepted along the runs, {states} from random sound states");
         let ([runs, states], all) = (self.befallen.map(|befallen| befallen.met()), BEFALLS.len());
         println!("of {all} things that may befall a queue {runs} did along the runs, {states} from random sound states");
+        let ([runs, states], all) = (self.foretold.map(|foretold| foretold.met()), FORETELLS.len());
+        let most = self.foretold.map(|foretold| foretold.most).into_iter().max().unwrap_or(0);
+        println!("of {all} things that may befall a prediction {runs} did along the runs, {states} from random sound states");
+        println!("an input gave {most} reports at most");
         let Texts { compared, names } = self.texts;
         println!("{compared} texts were given to the name check alone, {names} of them have a name");
         let Tables { compared, waiting } = self.tables;
@@ -127,9 +137,13 @@ mod tests {
     #[test]
     fn what_is_not_met_is_told() {
         let lines = Table::default().unmet();
-        assert_eq!(lines.len(), 9, "{lines:?}");
+        assert_eq!(lines.len(), 11, "{lines:?}");
         assert!(lines[1].starts_with("NOT MET along the runs, by a queue: CancelCarrier of"), "{lines:?}");
-        assert_eq!(lines[5], "NOT MET among the logs: agrees, disagrees, 27, 28, 29");
-        assert_eq!(lines[7], "NO SLOT MAP was OK at once along the runs, or none from states");
+        assert!(
+            lines[3].starts_with("NOT MET along the runs, by a prediction: Tp at the setting"),
+            "{lines:?}"
+        );
+        assert_eq!(lines[7], "NOT MET among the logs: agrees, disagrees, 27, 28, 29");
+        assert_eq!(lines[9], "NO SLOT MAP was OK at once along the runs, or none from states");
     }
 }

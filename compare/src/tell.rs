@@ -38,12 +38,12 @@ pub fn tell(both: &Both, finding: &Finding) -> String {
 fn tell_run(both: &Both, run: &Run) -> String {
     let mut out = format!("DIFFERENT. The shortest script found that shows it:\n{}", run.script());
     let Some((last, before)) = run.inputs.split_last() else {
-        let (a, one) = set_up(both.proved, run.ports, run.places);
-        let (b, other) = set_up(both.independent, run.ports, run.places);
+        let (a, one) = set_up(both.proved, run.setup);
+        let (b, other) = set_up(both.independent, run.setup);
         let _ = writeln!(out, "proved       setup {a}\nindependent  setup {b}");
         return out + &differing(&one, &other);
     };
-    let mut tool = set_up(both.independent, run.ports, run.places).1;
+    let mut tool = set_up(both.independent, run.setup).1;
     for input in before {
         tool = outcome(both.independent, &tool, input).tool;
     }

@@ -4,6 +4,7 @@ mod wrong_logs;
 mod wrong_maps;
 mod wrong_messages;
 mod wrong_names;
+mod wrong_predict;
 mod wrong_queue;
 mod wrong_replies;
 
@@ -12,8 +13,10 @@ use independent::gen::{Input, Rng};
 use independent::requests::Tool;
 use independent::{Report, Reports};
 
-use crate::machine::{Both, Bridged, Heard, Independent, Machine, Outcome};
-use crate::parts::{damaged, edges, maps, messages, names, odd, out, runs, setups, small, states, twelve};
+use crate::machine::{Both, Bridged, Heard, Independent, Machine, Outcome, SetUp};
+use crate::parts::{
+    damaged, edges, foretold, maps, messages, names, odd, out, runs, setups, small, states, twelve,
+};
 use crate::play::{Finding, Player, Tally};
 use crate::script::Run;
 use crate::shrink::{differs_after, shortest};
@@ -21,8 +24,8 @@ use crate::tell::tell;
 
 /// A program that is wrong on purpose: the independent one, but for what it does otherwise.
 trait Wrong {
-    fn setup(&self, ports: u32, places: u32, tool: &mut Tool) -> u32 {
-        Independent.setup(ports, places, tool)
+    fn setup(&self, of: SetUp, tool: &mut Tool) -> u32 {
+        Independent.setup(of, tool)
     }
 
     fn step(&self, tool: &mut Tool, input: &Input, reports: &mut Reports) -> u32 {
@@ -44,8 +47,8 @@ trait Wrong {
 
 /// The defaults stand there and not in `Machine`, where a program could lack a method unnoticed.
 impl<W: Wrong> Machine for W {
-    fn setup(&self, ports: u32, places: u32, tool: &mut Tool) -> u32 {
-        Wrong::setup(self, ports, places, tool)
+    fn setup(&self, of: SetUp, tool: &mut Tool) -> u32 {
+        Wrong::setup(self, of, tool)
     }
 
     fn step(&self, tool: &mut Tool, input: &Input, reports: &mut Reports) -> u32 {
@@ -81,7 +84,7 @@ impl<F: Fn(&Tool, &Input, &mut Outcome)> Wrong for Faulty<F> {
 
 /// The independent program, which takes what it is given for something else.
 struct Mistaken {
-    ports: fn(u32) -> u32,
+    setup: fn(SetUp) -> SetUp,
     input: fn(&Input) -> Input,
     tool: fn(&Tool) -> Tool,
     text: fn(&[u8]) -> Vec<u8>,
@@ -90,7 +93,7 @@ struct Mistaken {
 
 impl Mistaken {
     const IN_NOTHING: Mistaken = Mistaken {
-        ports: |ports| ports,
+        setup: |of| of,
         input: Input::clone,
         tool: |tool| *tool,
         text: <[u8]>::to_vec,
@@ -99,8 +102,8 @@ impl Mistaken {
 }
 
 impl Wrong for Mistaken {
-    fn setup(&self, ports: u32, places: u32, tool: &mut Tool) -> u32 {
-        Independent.setup((self.ports)(ports), places, tool)
+    fn setup(&self, of: SetUp, tool: &mut Tool) -> u32 {
+        Independent.setup((self.setup)(of), tool)
     }
 
     fn step(&self, tool: &mut Tool, input: &Input, reports: &mut Reports) -> u32 {
@@ -174,15 +177,15 @@ fn a_wrong_answer_deep_in_a_run_takes_seven_inputs() {
             o.answer = 0;
         }
     });
-    assert_eq!((run.ports, run.places), (1, 1));
+    assert_eq!((run.setup.ports, run.setup.places), (1, 1));
     let numbers: Vec<u32> = run.inputs.iter().map(|input| input.number).collect();
     assert_eq!((numbers.len(), numbers[6]), (7, 19), "{numbers:?}");
 }
 
 #[test]
 fn a_fault_of_the_set_up_needs_no_input() {
-    let ports = |ports| if ports == 260 { 4 } else { ports };
-    let cuts = Mistaken { ports, ..Mistaken::IN_NOTHING };
+    let setup = |of: SetUp| if of.ports == 260 { SetUp { ports: 4, ..of } } else { of };
+    let cuts = Mistaken { setup, ..Mistaken::IN_NOTHING };
     let both = Both { proved: &cuts, independent: &Independent };
     let Err(finding @ Finding::Run(_)) = setups::compare(&both, &mut Rng::new(1)) else {
         panic!("the fault was not found");
@@ -195,7 +198,7 @@ fn a_fault_of_the_set_up_needs_no_input() {
 #[test]
 fn a_run_without_a_difference_stays_as_it_is() {
     let both = Both { proved: &Independent, independent: &Independent };
-    let run = Run { ports: 1, places: 0, inputs: vec![Input { number: 13, port: 1, ..Input::default() }] };
+    let run = Run { setup: SetUp::of(1, 0), inputs: vec![Input { number: 13, port: 1, ..Input::default() }] };
     assert_eq!(shortest(&both, &run), run);
 }
 
@@ -209,9 +212,12 @@ fn first_finding(both: &Both) -> Option<Finding> {
         names::compare(both)?;
         names::texts(both, 5_000, &mut rng)?;
         out::compare(both)?;
-        small::compare(both)?;
+        foretold::compare(both)?;
+        small::queues(both)?;
+        small::predictions(both)?;
         setups::compare(both, &mut rng)?;
         runs::compare(both, 5_000, &mut rng)?;
+        runs::without_buffer(both, 5_000, &mut rng)?;
         states::compare(both, 5_000, &mut rng)?;
         damaged::every_byte(both, 1, &mut rng)?;
         damaged::mixed_up(both, 2_000, &mut rng)?;
@@ -265,7 +271,7 @@ fn both_wrong_alike_is_against_the_documents() {
     assert_eq!(why, "row 13 has no answer 8");
     let why =
         against(|_, _, o| o.reports.items[6].old = 1, |both, rng| states::compare(both, 100, rng).map(drop));
-    assert_eq!(why, "at most seven reports, and zeros past the count");
+    assert_eq!(why, "at most ten reports, and zeros past the count");
 }
 
 /// Such a run is shrunk too.

@@ -5,7 +5,7 @@ use independent::gen::{Input, Rng};
 use independent::requests::Tool;
 use independent::Plain;
 
-use crate::machine::Both;
+use crate::machine::{Both, SetUp};
 use crate::play::{from_state, Finding, Tally};
 
 /// What every byte is set to, besides its own value one more, one less, and with the high bit turned.
@@ -24,14 +24,15 @@ pub struct Damage {
     pub sound: u64,
 }
 
-/// Every byte of some tools: the one of a fresh set-up, none at all, and random sound ones.
+/// Every byte of some tools: the one of a fresh set-up, none at all, and random sound ones, one of which foretells.
 pub fn every_byte(both: &Both, total: u64, rng: &mut Rng) -> Result<Damage, Finding> {
     let mut damage = Damage::default();
-    let tools = (total as usize).div_ceil(EACH).max(3);
+    let tools = (total as usize).div_ceil(EACH).max(4);
     for k in 0..tools {
         let whole = match k {
             0 => fullest(rng),
-            1 => both.setup(2, 3).map_or(Tool::NONE, |(_, tool)| tool),
+            3 => foretelling(rng),
+            1 => both.setup(SetUp::of(2, 3)).map_or(Tool::NONE, |(_, tool)| tool),
             2 => Tool::NONE,
             _ => random_sound_tool(rng),
         };
@@ -50,7 +51,7 @@ pub fn every_byte(both: &Both, total: u64, rng: &mut Rng) -> Result<Damage, Find
 }
 
 /// Sound tools in which one record or port has a part of another, so that names, places or ties no longer agree; or
-/// in which a map, a request, what it needs, or a byte that is unused, isn't as it should be.
+/// in which a map, a request, a prediction, what these need, or a byte that is unused, isn't as it should be.
 pub fn mixed_up(both: &Both, total: u64, rng: &mut Rng) -> Result<Damage, Finding> {
     let mut damage = Damage::default();
     while damage.tally.inputs < total {
@@ -105,6 +106,14 @@ fn fullest(rng: &mut Rng) -> Tool {
     draws
         .max_by_key(|tool| tool.base.count as usize + tool.queue.count as usize + 4 * started(tool))
         .expect("some draws")
+}
+
+/// A random sound tool without a buffer that has as many carriers at ports with a Tp and a Te as some hundred draws give.
+fn foretelling(rng: &mut Rng) -> Tool {
+    let draws = (0..400).map(|_| random_sound_tool(rng)).filter(|tool| tool.base.places == 0);
+    let told =
+        |tool: &Tool| tool.predictions.of.iter().filter(|p| p.state > 2 && p.has_tp + p.has_te > 1).count();
+    draws.max_by_key(|tool| 20 * told(tool) + tool.base.count as usize).expect("some draws")
 }
 
 /// Whether a state is sound, and an input from it.

@@ -5,7 +5,7 @@ use crate::machine::Both;
 use crate::play::{Finding, Player, Tally};
 
 /// Rows that must have a name, and what each answers to one that has no record, where the other parts are good.
-const NAMED: [(u32, u32); 14] = [
+const NAMED: [(u32, u32); 17] = [
     (1, 0),
     (3, 0),
     (4, 2),
@@ -20,6 +20,9 @@ const NAMED: [(u32, u32); 14] = [
     (22, 2),
     (23, 2),
     (29, 5),
+    (32, 2),
+    (33, 2),
+    (34, 2),
 ];
 
 /// Rows that must have a port, and what each answers just after set-up.

@@ -9,7 +9,7 @@ use independent::gen::{Input, Rng};
 use independent::requests::Tool;
 
 use crate::laws::misread;
-use crate::machine::{Both, Bridged};
+use crate::machine::{Both, Bridged, SetUp};
 use crate::play::Finding;
 
 /// Messages to each state and those after it.
@@ -172,7 +172,7 @@ const EDGES: [(&str, u32, u32, usize); 42] = [
 ];
 
 fn edges(both: &Both, met: &mut Messages) -> Result<(), Finding> {
-    let (_, tool) = both.setup(1, 0).expect("a tool of one port");
+    let (_, tool) = both.setup(SetUp::of(1, 0)).expect("a tool of one port");
     let maps = (23..=27).map(|codes| {
         let message = format!("{BIND}{SLOT_MAP} 01{codes:02x} {}", "a50103".repeat(codes));
         (message, if codes == 25 { 0 } else { 26 }, 9 + codes as u32, 33 + 3 * codes)

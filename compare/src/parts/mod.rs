@@ -2,6 +2,7 @@
 
 pub mod damaged;
 pub mod edges;
+pub mod foretold;
 pub mod judge;
 pub mod maps;
 pub mod messages;
@@ -20,7 +21,7 @@ use independent::gen::Input;
 
 /// Numbers that are near a limit, or that one is tempted to cut short.
 pub const ODD: [u32; 14] =
-    [0, 5, 17, 26, 27, 30, 31, 255, 256, 257, 1 << 16, 1 << 31, (1 << 31) - 1, u32::MAX];
+    [0, 5, 17, 26, 27, 34, 35, 255, 256, 257, 1 << 16, 1 << 31, (1 << 31) - 1, u32::MAX];
 
 /// What a good number becomes where its high bits are lost.
 pub const LOST: [u32; 3] = [1 << 8, 1 << 16, 1 << 31];
@@ -31,7 +32,12 @@ pub const LONGEST: &[u8] = b"ABCDEFGHIJKLMNOP";
 pub const TOO_LONG: &[u8] = b"ABCDEFGHIJKLMNOPQ";
 
 pub fn input(number: u32, port: u32, value: u32, name: &[u8], codes: &[u8]) -> Input {
-    Input { number, port, value, name: name.to_vec(), codes: codes.to_vec() }
+    Input { number, port, value, name: name.to_vec(), codes: codes.to_vec(), ..Input::default() }
+}
+
+/// An input that brings the clock.
+pub fn timed(number: u32, clock: u32, name: &[u8], time: u32) -> Input {
+    Input { clock, time, ..named(number, name) }
 }
 
 /// An input that names a port alone.

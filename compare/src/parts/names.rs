@@ -108,6 +108,7 @@ fn not_looked_at(both: &Both, tally: &mut Tally) -> Result<(), Finding> {
         (27, 5),
         (28, 5),
         (30, 0),
+        (31, 0),
     ];
     for (row, answer) in rows {
         for text in [&b""[..], b"A ", b" ", b"A B", b"\0", &[b' '; 33], &[0xFF; 300]] {

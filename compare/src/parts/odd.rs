@@ -1,12 +1,12 @@
-//! Odd numbers for number, port and value, names of up to 300 bytes of every value,
+//! Odd numbers for number, port, value, clock and time, names of up to 300 bytes of every value,
 //! and codes of every length and value.
 
-use independent::gen::requests::random_run_input;
+use independent::gen::requests::{random_run_input, random_times};
 use independent::gen::{Input, Rng};
 use independent::requests::INPUTS;
 
-use super::{at, input, named, LOST, ODD};
-use crate::machine::Both;
+use super::{at, input, named, timed, LOST, ODD};
+use crate::machine::{Both, SetUp};
 use crate::play::{Finding, Player, Tally};
 
 /// Inputs of a run before its state is looked at.
@@ -36,6 +36,9 @@ fn every_number(both: &Both, tally: &mut Tally) -> Result<(), Finding> {
         for row in [1, 2, 5, 7, 9, 10, 13, 16, 18, 27, 28] {
             player.look(&input(row, odd, 1, b"A", b""))?;
             player.look(&input(row, 1, odd, b"A", b""))?;
+        }
+        for row in [31, 32, 33, 34] {
+            player.look(&timed(row, odd, b"A", odd))?;
         }
     }
     for row in 1..=INPUTS {
@@ -94,8 +97,10 @@ fn every_code(both: &Both, tally: &mut Tally) -> Result<(), Finding> {
 
 /// Odd inputs from a state that a run reaches.
 fn some_state(both: &Both, tally: &mut Tally, rng: &mut Rng) -> Result<(), Finding> {
-    let (ports, places) = (1 + rng.below(4), rng.below(17));
-    let mut player = Player::begin(both, tally, ports, places)?;
+    let places = if rng.chance(25) { 0 } else { rng.below(17) };
+    let (setting, timeout) = random_times(rng);
+    let setup = SetUp { ports: 1 + rng.below(4), places, setting, timeout };
+    let mut player = Player::set_up(both, tally, setup)?;
     for _ in 0..WARM_UP {
         for _ in 0..EACH {
             let good = random_run_input(&player.tool, rng);
@@ -109,11 +114,13 @@ fn some_state(both: &Both, tally: &mut Tally, rng: &mut Rng) -> Result<(), Findi
 
 /// A good input with one part that is odd.
 fn made_odd(mut input: Input, rng: &mut Rng) -> Input {
-    match rng.below(5) {
+    match rng.below(7) {
         0 => input.number = odd_number(input.number, rng),
         1 => input.port = odd_number(input.port, rng),
         2 => input.value = odd_number(input.value, rng),
-        3 => input.name = odd_name(&input.name, rng),
+        3 => input.clock = odd_number(input.clock, rng),
+        4 => input.time = odd_number(input.time, rng),
+        5 => input.name = odd_name(&input.name, rng),
         _ => input.codes = odd_codes(&input.codes, rng),
     }
     input

@@ -1,13 +1,17 @@
 //! Long random runs for every P and B.
 
-use independent::gen::requests::random_run_input;
+use independent::gen::requests::{random_run_input, random_times};
 use independent::gen::Rng;
 
-use crate::machine::Both;
+use crate::machine::{Both, SetUp};
 use crate::play::{Finding, Player, Tally};
 
 /// Long enough to fill the tool and drain it several times, short enough that a difference is soon shrunk.
 const LONGEST: u64 = 5000;
+
+/// Inputs of a run without a buffer, and how many such runs there are at least.
+const SHORT: u64 = 1000;
+const TOOLS: u64 = 60;
 
 /// What a tool of sixteen places is given at least: enough to fill the buffer, and then the queue.
 const FILLING: u64 = 1500;
@@ -20,7 +24,8 @@ pub fn compare(both: &Both, total: u64, rng: &mut Rng) -> Result<Tally, Finding>
             let mut left = if places == 16 { each.max(FILLING) } else { each };
             while left > 0 {
                 let length = left.min(LONGEST);
-                one(both, &mut tally, ports, places, length, rng)?;
+                let (setting, timeout) = random_times(rng);
+                one(both, &mut tally, SetUp { ports, places, setting, timeout }, length, rng)?;
                 left -= length;
             }
         }
@@ -28,15 +33,18 @@ pub fn compare(both: &Both, total: u64, rng: &mut Rng) -> Result<Tally, Finding>
     Ok(tally)
 }
 
-fn one(
-    both: &Both,
-    tally: &mut Tally,
-    ports: u32,
-    places: u32,
-    length: u64,
-    rng: &mut Rng,
-) -> Result<(), Finding> {
-    let mut player = Player::begin(both, tally, ports, places)?;
+/// Runs of tools without a buffer, each with other times. They are short: a clock that has come to its end stays there.
+pub fn without_buffer(both: &Both, total: u64, rng: &mut Rng) -> Result<Tally, Finding> {
+    let mut tally = Tally::default();
+    for k in 0..total.div_ceil(SHORT).max(TOOLS) {
+        let (setting, timeout) = random_times(rng);
+        one(both, &mut tally, SetUp::fixed(1 + k as u32 % 4, setting, timeout), SHORT, rng)?;
+    }
+    Ok(tally)
+}
+
+fn one(both: &Both, tally: &mut Tally, setup: SetUp, length: u64, rng: &mut Rng) -> Result<(), Finding> {
+    let mut player = Player::set_up(both, tally, setup)?;
     for _ in 0..length {
         let input = random_run_input(&player.tool, rng);
         player.give(input)?;

@@ -1,4 +1,5 @@
-//! Every state that a small tool with a queue comes to, and every input of some rows from each of them.
+//! Every state that a small tool comes to, with a queue or with predictions, and every input of some rows from each of
+//! them.
 
 use std::collections::hash_map::DefaultHasher;
 use std::collections::HashSet;
@@ -8,8 +9,8 @@ use independent::gen::Input;
 use independent::requests::Tool;
 use independent::Plain;
 
-use super::{at, input, named};
-use crate::machine::Both;
+use super::{at, input, named, timed};
+use crate::machine::{Both, SetUp};
 use crate::play::{from_state, Finding, Player, Tally};
 
 /// A tool, the carriers in its buffer at first, and the rows that are given: those that name a port, then those that
@@ -52,22 +53,100 @@ const SMALL: [Small; 3] = [
 /// The rows at a port that have a value: access, service, place.
 const VALUED: [u32; 3] = [9, 10, 18];
 
-pub fn compare(both: &Both) -> Result<Tally, Finding> {
+/// A tool without a buffer whose carriers stand open at ports 1, 2 and so on, verified, and the rows that are given: those
+/// that name a port, then those that name a carrier; and all the clocks, Tps and Tes.
+struct Foretelling {
+    setting: u32,
+    timeout: u32,
+    names: &'static [&'static [u8]],
+    at_port: &'static [u32],
+    of_carrier: &'static [u32],
+    clocks: &'static [u32],
+    tps: &'static [u32],
+    tes: &'static [u32],
+}
+
+const FORETELLING: [Foretelling; 5] = [
+    // All that a single carrier may meet.
+    Foretelling {
+        setting: 1,
+        timeout: 2,
+        names: &[b"A"],
+        at_port: &[24, 25, 26],
+        of_carrier: &[6, 19, 21, 22, 23],
+        clocks: &[0, 1, 2, 3, 4, 5],
+        tps: &[0, 1, 2, 3, 4],
+        tes: &[1, 3, 4, 5],
+    },
+    // The same with a setting of 0, and with a timeout of 0.
+    Foretelling {
+        setting: 0,
+        timeout: 1,
+        names: &[b"A"],
+        at_port: &[24, 25, 26],
+        of_carrier: &[6, 19, 21, 22, 23],
+        clocks: &[0, 1, 2],
+        tps: &[0, 1, 2],
+        tes: &[0, 1, 2],
+    },
+    Foretelling {
+        setting: 2,
+        timeout: 0,
+        names: &[b"A"],
+        at_port: &[24, 25, 26],
+        of_carrier: &[6, 19, 21, 22, 23],
+        clocks: &[0, 1, 2, 3],
+        tps: &[0, 2, 3, 4],
+        tes: &[0, 2, u32::MAX],
+    },
+    // The end of all clocks.
+    Foretelling {
+        setting: 2,
+        timeout: 2,
+        names: &[b"A"],
+        at_port: &[24, 26],
+        of_carrier: &[6, 21, 22, 23],
+        clocks: &[0, u32::MAX - 4, u32::MAX - 2, u32::MAX - 1, u32::MAX],
+        tps: &[0, u32::MAX - 2, u32::MAX - 1, u32::MAX],
+        tes: &[0, 1, u32::MAX - 1, u32::MAX],
+    },
+    // Two that are judged together.
+    Foretelling {
+        setting: 1,
+        timeout: 1,
+        names: &[b"B", b"A"],
+        at_port: &[24, 26],
+        of_carrier: &[6, 21, 22, 23],
+        clocks: &[0, 2, 3],
+        tps: &[2],
+        tes: &[2, 3],
+    },
+];
+
+pub fn queues(both: &Both) -> Result<Tally, Finding> {
     let mut tally = Tally::default();
     for small in &SMALL {
-        every_state(both, &mut tally, small)?;
+        let first = stocked(both, &mut tally, small)?;
+        every_state(both, &mut tally, first, &inputs(small))?;
+    }
+    Ok(tally)
+}
+
+pub fn predictions(both: &Both) -> Result<Tally, Finding> {
+    let mut tally = Tally::default();
+    for small in &FORETELLING {
+        let first = opened(both, &mut tally, small)?;
+        every_state(both, &mut tally, first, &told(small))?;
     }
     Ok(tally)
 }
 
 /// How many states a small tool has.
-fn every_state(both: &Both, tally: &mut Tally, small: &Small) -> Result<usize, Finding> {
-    let inputs = inputs(small);
-    let first = stocked(both, tally, small)?;
+fn every_state(both: &Both, tally: &mut Tally, first: Tool, inputs: &[Input]) -> Result<usize, Finding> {
     let mut met = HashSet::from([key(&first)]);
     let mut left = vec![first];
     while let Some(tool) = left.pop() {
-        for input in &inputs {
+        for input in inputs {
             let after = from_state(both, tally, &tool, input)?.tool;
             if met.insert(key(&after)) {
                 stays_sound(both, &tool, input, &after)?;
@@ -105,6 +184,39 @@ fn inputs(small: &Small) -> Vec<Input> {
     all
 }
 
+/// The carriers stand open at their ports, and may be accessed.
+fn opened(both: &Both, tally: &mut Tally, small: &Foretelling) -> Result<Tool, Finding> {
+    let setup = SetUp::fixed(small.names.len() as u32, small.setting, small.timeout);
+    let mut player = Player::set_up(both, tally, setup)?;
+    for (port, name) in (1..).zip(small.names) {
+        let read = [at(13, port), at(14, port), input(16, port, 0, name, b""), named(5, name)];
+        let map = input(20, 0, 0, name, &[3; 25]);
+        for input in read.into_iter().chain([named(19, name), map, named(5, name)]) {
+            player.expect(input, 0)?;
+        }
+    }
+    Ok(player.tool)
+}
+
+fn told(small: &Foretelling) -> Vec<Input> {
+    let mut all = Vec::new();
+    for port in 1..=small.names.len() as u32 {
+        all.extend(small.at_port.iter().map(|&row| at(row, port)));
+    }
+    for name in small.names {
+        all.extend(small.of_carrier.iter().map(|&row| named(row, name)));
+    }
+    for &clock in small.clocks {
+        all.push(timed(31, clock, b"", 0));
+        for name in small.names {
+            all.extend(small.tps.iter().map(|&tp| timed(32, clock, name, tp)));
+            all.extend(small.tes.iter().map(|&te| timed(33, clock, name, te)));
+            all.push(timed(34, clock, name, 0));
+        }
+    }
+    all
+}
+
 /// A state by two hashes, so that many states take little room.
 fn key(tool: &Tool) -> [u64; 2] {
     [0, 1].map(|salt| {
@@ -134,7 +246,15 @@ mod tests {
     fn small_tools_have_so_many_states() {
         let both = Both { proved: &Independent, independent: &Independent };
         let mut tally = Tally::default();
-        let states = SMALL.map(|small| every_state(&both, &mut tally, &small).unwrap());
+        let states = SMALL.map(|small| {
+            let first = stocked(&both, &mut tally, &small).unwrap();
+            every_state(&both, &mut tally, first, &inputs(&small)).unwrap()
+        });
         assert_eq!(states, [404, 2027, 2475]);
+        let states = FORETELLING.map(|small| {
+            let first = opened(&both, &mut tally, &small).unwrap();
+            every_state(&both, &mut tally, first, &told(&small)).unwrap()
+        });
+        assert_eq!(states, [1888, 33, 812, 1394, 10808]);
     }
 }

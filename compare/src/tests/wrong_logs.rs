@@ -116,7 +116,7 @@ impl Sloppy {
         let name = taken(log, at, length as usize)?.to_vec();
         let codes = if (self.has_codes)(numbers[0]) { taken(log, at, 25)?.to_vec() } else { Vec::new() };
         let [number, port, value] = numbers.map(u32::from);
-        Some((Input { number, port, value, name, codes }, byte(log, at)?))
+        Some((Input { number, port, value, name, codes, ..Input::default() }, byte(log, at)?))
     }
 
     fn reports(&self, log: &[u8], at: &mut usize) -> Option<Vec<Shown>> {

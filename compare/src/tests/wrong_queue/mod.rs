@@ -85,6 +85,6 @@ fn caught(fault: Fault) -> (Run, u32) {
 fn caught_small(fault: Fault) -> (Run, u32) {
     let faulty = Faulty(fault);
     let both = Both { proved: &faulty, independent: &Independent };
-    assert!(matches!(small::compare(&both), Err(Finding::State(..))), "not found in small tools");
+    assert!(matches!(small::queues(&both), Err(Finding::State(..))), "not found in small tools");
     caught(fault)
 }

@@ -48,7 +48,7 @@ fn a_start_with_nothing_to_take_is_found() {
             o.tool.base.port[input.port as usize - 1].reserved = 1;
         }
     });
-    assert_eq!((row, run.ports), (27, 2), "{}", run.script());
+    assert_eq!((row, run.setup.ports), (27, 2), "{}", run.script());
 }
 
 /// OutDone that keeps the reservation, keeps the entry, turns came-out off, or takes the youngest away.
