@@ -163,7 +163,7 @@ fn a_lost_report_takes_four_inputs() {
             o.reports.items[6] = Report::UNUSED;
         }
     });
-    assert_eq!(run.script(), "setup 1 0\nin 1 1 0 41 -\nin 13 1 0 - -\nin 14 1 0 - -\nin 16 1 0 42 -\n");
+    assert_eq!(run.script(), "setup 1 1\nin 1 1 0 41 -\nin 13 1 0 - -\nin 14 1 0 - -\nin 16 1 0 42 -\n");
 }
 
 /// The temptation that document 01 names: a cancelled carrier in the buffer is opened because its ID is still OK.
@@ -231,7 +231,9 @@ fn first_finding(both: &Both) -> Option<Finding> {
 
 #[test]
 fn two_programs_that_agree_show_nothing() {
-    assert!(first_finding(&Both { proved: &Independent, independent: &Independent }).is_none());
+    let both = Both { proved: &Independent, independent: &Independent };
+    let finding = first_finding(&both).map(|finding| tell(&both, &finding));
+    assert_eq!(finding, None);
 }
 
 /// Why the documents are against two programs that are wrong alike.

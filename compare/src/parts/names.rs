@@ -123,7 +123,7 @@ fn kept_without_blanks(both: &Both, tally: &mut Tally) -> Result<(), Finding> {
     for length in [2, 16, 17, 32] {
         let mut player = Player::begin(both, tally, 1, 0)?;
         let text = padded(b"A", length);
-        player.expect_reports(&named(3, &text), "5 A 0>1; 6 A 0>1; 7 A 0>1")?;
+        player.expect_reports(&named(3, &text), "5 A 0>1; 6 A 0>1; 7 A 0>1; 8 A 0>2")?;
         player.expect(named(3, &text), 0)?;
         let kept = player.tool.base.carrier[0].name;
         player.demand(kept == *b"A\0\0\0\0\0\0\0\0\0\0\0\0\0\0\0", || {

@@ -165,5 +165,5 @@ fn every_answer_is_met() {
     let met = messages::compare(&both, 20_000, &mut Rng::new(5)).unwrap();
     assert!(met.unmet().is_empty() && met.compared > 20_000 && met.ordered > 2_000, "{met}");
     assert!(!messages::Messages::default().unmet().is_empty());
-    assert_eq!(Reports::NONE.bytes(), [0; 141]);
+    assert_eq!(Reports::NONE.bytes(), [0; 201]);
 }
