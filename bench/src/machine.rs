@@ -1,14 +1,50 @@
 //! A step of either program, as one kind of function.
 
-use hawsermole::raw;
+use hawsermole::raw::{self, TOOL_BYTES};
+use independent::requests::predict::is_timed;
 use independent::requests::secs::{secs_step, SecsAnswer};
-use independent::requests::Tool;
+use independent::requests::{self, Tool};
 use independent::{Plain, Reports};
 
 /// A message to a tool: the answer and the count of items.
 pub type Secs = fn(&mut Tool, &[u8], &mut Reports) -> (u32, u32);
 
-pub type Step = fn(&mut Tool, u32, u32, u32, &[u8], &[u8], &mut Reports) -> u32;
+/// An input with all its parts.
+pub struct Given<'a> {
+    pub number: u32,
+    pub port: u32,
+    pub value: u32,
+    pub name: &'a [u8],
+    pub codes: &'a [u8],
+    pub clock: u32,
+    pub time: u32,
+}
+
+pub type Step = fn(&mut Tool, &Given, &mut Reports) -> u32;
+
+/// The proved machine.
+pub fn proved(tool: &mut Tool, i: &Given, reports: &mut Reports) -> u32 {
+    if is_timed(i.number) {
+        return caller_of_hm_time_step(tool, i.number, i.clock, i.name, i.time, reports);
+    }
+    caller_of_hm_step(tool, i.number, i.port, i.value, i.name, i.codes, reports)
+}
+
+/// The independent program.
+pub fn independent(tool: &mut Tool, i: &Given, reports: &mut Reports) -> u32 {
+    if is_timed(i.number) {
+        return requests::time_step(tool, i.number, i.clock, i.name, i.time, reports);
+    }
+    requests::step(tool, i.number, i.port, i.value, i.name, i.codes, reports)
+}
+
+/// The same without a look at whether the tool is sound.
+pub fn independent_known_sound(tool: &mut Tool, i: &Given, reports: &mut Reports) -> u32 {
+    if is_timed(i.number) {
+        return requests::time_step_known_sound(tool, i.number, i.clock, i.name, i.time, reports);
+    }
+    requests::step_known_sound(tool, i.number, i.port, i.value, i.name, i.codes, reports)
+}
 
 /// The proved machine. What counts instructions knows the caller of `hm_step` by this name.
 #[no_mangle]
@@ -26,6 +62,40 @@ pub fn caller_of_hm_step(
     // SAFETY: `main` has seen that the sizes agree.
     let answer = unsafe { raw::step(tool, reports, number, port, value, name, codes) };
     // Not a tail call: `hm_step` comes back here.
+    std::hint::black_box(answer)
+}
+
+/// The bytes of the reports: a count and ten entries.
+const REPORTS_BYTES: usize = 201;
+
+// `include/hawsermole.h` says what it gives.
+unsafe extern "C" {
+    fn hm_time_step(
+        tool: &mut [u8; TOOL_BYTES],
+        reports: &mut [u8; REPORTS_BYTES],
+        number: u32,
+        clock: u32,
+        name: *const u8,
+        name_length: u64,
+        time: u32,
+    ) -> u32;
+}
+
+/// An input that brings the clock, known in the same way.
+#[no_mangle]
+#[inline(never)]
+pub fn caller_of_hm_time_step(
+    tool: &mut Tool,
+    number: u32,
+    clock: u32,
+    name: &[u8],
+    time: u32,
+    reports: &mut Reports,
+) -> u32 {
+    let (tool, reports) = (tool.bytes_mut().try_into().unwrap(), reports.bytes_mut().try_into().unwrap());
+    // SAFETY: `main` has seen that the sizes agree. The name is lent with its length.
+    let answer =
+        unsafe { hm_time_step(tool, reports, number, clock, name.as_ptr(), name.len() as u64, time) };
     std::hint::black_box(answer)
 }
 
@@ -54,15 +124,7 @@ pub fn independent_secs(tool: &mut Tool, message: &[u8], reports: &mut Reports) 
 }
 
 /// Nothing but reading the input, so that its price is known.
-pub fn reading_alone(
-    _: &mut Tool,
-    number: u32,
-    port: u32,
-    value: u32,
-    name: &[u8],
-    codes: &[u8],
-    _: &mut Reports,
-) -> u32 {
+pub fn reading_alone(_: &mut Tool, i: &Given, _: &mut Reports) -> u32 {
     let first = |bytes: &[u8]| bytes.first().map_or(0, |&byte| byte as u32);
-    number ^ port ^ value ^ first(name) ^ first(codes)
+    i.number ^ i.port ^ i.value ^ i.clock ^ i.time ^ first(i.name) ^ first(i.codes)
 }

@@ -1,10 +1,12 @@
-//! A run that is kept near a number of live carriers, recorded so that both programs play the same inputs.
+//! Runs that are recorded, so that both programs play the same inputs: one that is kept near a number of live carriers,
+//! with a buffer, and one without a buffer that foretells.
 
-use hawsermole::Parts;
-use independent::gen::requests::random_run_input;
-use independent::gen::Rng;
-use independent::requests::{setup, step, Tool};
+use independent::gen::requests::{random_run_input, step};
+use independent::gen::{Input, Rng};
+use independent::requests::{setup, Tool};
 use independent::{status, Reports, MAX_CARRIERS};
+
+use crate::machine::Given;
 
 const SLOT_MAP: u32 = 20;
 
@@ -15,6 +17,8 @@ struct Recorded {
     value: u32,
     name: std::ops::Range<usize>,
     codes: std::ops::Range<usize>,
+    clock: u32,
+    time: u32,
 }
 
 pub struct Mix {
@@ -25,16 +29,25 @@ pub struct Mix {
     live: u64,
     /// Slot maps that were the expected ones.
     pub at_once: u64,
+    /// Reports of model 8.
+    pub turns: u64,
 }
 
 impl Mix {
-    pub fn inputs(&self) -> impl Iterator<Item = Parts<'_>> {
-        self.inputs.iter().map(|i| Parts {
+    fn begin(start: Tool, count: usize) -> Mix {
+        let inputs = Vec::with_capacity(count);
+        Mix { start, inputs, bytes: Vec::new(), accepted: 0, live: 0, at_once: 0, turns: 0 }
+    }
+
+    pub fn inputs(&self) -> impl Iterator<Item = Given<'_>> {
+        self.inputs.iter().map(|i| Given {
             number: i.number,
             port: i.port,
             value: i.value,
             name: &self.bytes[i.name.clone()],
             codes: &self.bytes[i.codes.clone()],
+            clock: i.clock,
+            time: i.time,
         })
     }
 
@@ -48,6 +61,18 @@ impl Mix {
 
     pub fn percent_accepted(&self) -> f64 {
         100.0 * self.accepted as f64 / self.inputs.len() as f64
+    }
+
+    /// Records an input with its answer, its reports and the tool after it.
+    fn push(&mut self, i: &Input, answer: u32, reports: &Reports, after: &Tool) {
+        self.accepted += (answer == 0) as u64;
+        self.live += after.base.count as u64;
+        let judged = answer == 0 && i.number == SLOT_MAP && reports.items[0].new == status::OK;
+        self.at_once += judged as u64;
+        self.turns += reports.as_slice().iter().filter(|r| r.model == 8).count() as u64;
+        let (name, codes) = (self.keep(&i.name), self.keep(&i.codes));
+        let Input { number, port, value, clock, time, .. } = *i;
+        self.inputs.push(Recorded { number, port, value, name, codes, clock, time });
     }
 
     fn keep(&mut self, bytes: &[u8]) -> std::ops::Range<usize> {
@@ -64,23 +89,38 @@ pub fn record(count: usize, carriers: usize) -> Mix {
     let near = carriers.saturating_sub(2)..=carriers + 2;
     let mut rng = Rng::new(26);
     let mut tool = reach(carriers, &mut rng);
-    let inputs = Vec::with_capacity(count);
-    let mut mix = Mix { start: tool, inputs, bytes: Vec::new(), accepted: 0, live: 0, at_once: 0 };
+    let mut mix = Mix::begin(tool, count);
     while mix.inputs.len() < count {
         let i = random_run_input(&tool, &mut rng);
         let mut next = tool;
         let mut reports = Reports::NONE;
-        let answer = step(&mut next, i.number, i.port, i.value, &i.name, &i.codes, &mut reports);
+        let answer = step(&mut next, &i, &mut reports);
         if !near.contains(&next.base.count) {
             continue;
         }
         tool = next;
-        mix.accepted += (answer == 0) as u64;
-        mix.live += tool.base.count as u64;
-        let judged = answer == 0 && i.number == SLOT_MAP && reports.items[0].new == status::OK;
-        mix.at_once += judged as u64;
-        let (name, codes) = (mix.keep(&i.name), mix.keep(&i.codes));
-        mix.inputs.push(Recorded { number: i.number, port: i.port, value: i.value, name, codes });
+        mix.push(&i, answer, &reports, &tool);
+    }
+    mix
+}
+
+/// `count` inputs at P = 4, B = 0, setting 60 and timeout 120, with clocks, Tps and Tes. A clock that would leap to the
+/// end of all clocks is drawn anew, so that predictions go on.
+pub fn record_foretelling(count: usize) -> Mix {
+    const LEAP: u32 = 200_000;
+    let mut rng = Rng::new(31);
+    let mut tool = Tool::NONE;
+    setup(4, 0, 60, 120, &mut tool);
+    let mut mix = Mix::begin(tool, count);
+    while mix.inputs.len() < count {
+        let i = random_run_input(&tool, &mut rng);
+        let (mut next, mut reports) = (tool, Reports::NONE);
+        let answer = step(&mut next, &i, &mut reports);
+        if next.predictions.clock() - tool.predictions.clock() > LEAP {
+            continue;
+        }
+        tool = next;
+        mix.push(&i, answer, &reports, &tool);
     }
     mix
 }
@@ -88,7 +128,7 @@ pub fn record(count: usize, carriers: usize) -> Mix {
 /// A tool with so many records; where there are enough, a good part of them in the buffer.
 fn reach(carriers: u8, rng: &mut Rng) -> Tool {
     let mut tool = Tool::NONE;
-    setup(4, 16, &mut tool);
+    setup(4, 16, 60, 120, &mut tool);
     let mut reports = Reports::NONE;
     loop {
         let buffered = tool.base.carriers().iter().filter(|c| c.in_buffer()).count();
@@ -96,6 +136,30 @@ fn reach(carriers: u8, rng: &mut Rng) -> Tool {
             return tool;
         }
         let i = random_run_input(&tool, rng);
-        step(&mut tool, i.number, i.port, i.value, &i.name, &i.codes, &mut reports);
+        step(&mut tool, &i, &mut reports);
+    }
+}
+
+#[cfg(test)]
+mod tests {
+    use super::*;
+
+    /// Predictions are made and judged all along the mix without a buffer, and its clock doesn't come to an end.
+    #[test]
+    fn the_mix_without_a_buffer_foretells() {
+        let mix = record_foretelling(20_000);
+        let timed = |number| mix.inputs().filter(|i| i.number == number).count();
+        assert!((31..=34).all(|number| timed(number) > 200), "{:?}", [31, 32, 33, 34].map(timed));
+        assert!(
+            mix.turns > 2_000 && mix.percent_accepted() > 60.0,
+            "{} {}",
+            mix.turns,
+            mix.percent_accepted()
+        );
+        let mut tool = mix.start;
+        for i in mix.inputs() {
+            crate::machine::independent(&mut tool, &i, &mut Reports::NONE.clone());
+        }
+        assert!((1000..u32::MAX / 2).contains(&tool.predictions.clock()), "{}", tool.predictions.clock());
     }
 }

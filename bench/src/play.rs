@@ -4,10 +4,11 @@
 
 use hawsermole::{Row, ROWS};
 use independent::gen::{Input, Rng};
+use independent::requests::predict::is_timed;
 use independent::requests::Tool;
 use independent::Reports;
 
-use crate::machine::{caller_of_hm_name, caller_of_hm_step};
+use crate::machine::{caller_of_hm_name, caller_of_hm_step, caller_of_hm_time_step, proved};
 use crate::mix::record;
 use crate::states::{damaged, prepared, FAMILIES};
 
@@ -24,14 +25,21 @@ pub fn mix(count: usize, carriers: usize) {
     let mut reports = Reports::NONE;
     for i in mix.inputs() {
         let live = tool.base.count;
-        let answer = caller_of_hm_step(&mut tool, i.number, i.port, i.value, i.name, i.codes, &mut reports);
-        println!("{live} {} {answer} mixed", i.number);
+        let answer = proved(&mut tool, &i, &mut reports);
+        // An input that brings the clock is no call of `hm_step`.
+        if !is_timed(i.number) {
+            println!("{live} {} {answer} mixed", i.number);
+        }
     }
 }
 
 fn call(tool: &Tool, i: &Input, names: &str) {
     let mut next = *tool;
     let mut reports = Reports::NONE;
+    if is_timed(i.number) {
+        caller_of_hm_time_step(&mut next, i.number, i.clock, &i.name, i.time, &mut reports);
+        return;
+    }
     let answer = caller_of_hm_step(&mut next, i.number, i.port, i.value, &i.name, &i.codes, &mut reports);
     let name = String::from_utf8_lossy(&i.name);
     let (carriers, number, port, value, codes) = (tool.base.count, i.number, i.port, i.value, i.codes.len());

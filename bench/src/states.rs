@@ -1,9 +1,11 @@
-//! Prepared states: sound tools of P = 4 and B = 16 with a given number of records, with and without expected maps and
+//! Prepared states: sound tools of P = 4 and B = 16, or without a buffer for inputs that name a time, with a given number of records, with and without expected maps and
 //! requests to come out, and an input for each.
 
+use independent::gen::requests::step;
 use independent::gen::{padded, pool_name, shuffle, Input, Rng, POOL};
+use independent::requests::predict::is_timed;
 use independent::requests::queue::Request;
-use independent::requests::{setup, sound, step, Tool};
+use independent::requests::{setup, sound, Tool};
 use independent::{accessing, movement, place, status, tag, transfer};
 use independent::{Carrier, Plain, Port, Reports, MAP_LEN, MAX_CARRIERS, NAME_LEN};
 
@@ -89,7 +91,7 @@ fn map(rng: &mut Rng) -> [u8; MAP_LEN] {
 /// A sound tool with so many records.
 fn tool(carriers: usize, family: usize, rng: &mut Rng) -> Tool {
     let mut tool = Tool::NONE;
-    setup(4, 16, &mut tool);
+    setup(4, 16, 60, 120, &mut tool);
     tool.base.port = [0; 4].map(|_| port(rng));
     let mut seats: Vec<Carrier> = (0..MAX_CARRIERS).map(seat).collect();
     shuffle(&mut seats, rng);
@@ -116,8 +118,39 @@ fn tool(carriers: usize, family: usize, rng: &mut Rng) -> Tool {
         }
     }
     ask(&mut tool, rng);
+    tool.predictions.clock = [50, 0, 0, 0];
     assert!(sound(&tool), "a prepared state is sound");
     tool
+}
+
+/// The same without a buffer, where the others are expected: at most twenty records, each with a prediction.
+fn foretelling(carriers: usize, family: usize, rng: &mut Rng) -> Tool {
+    let mut whole = tool(carriers.min(4 + 16), family, rng);
+    let base = &mut whole.base;
+    (base.places, whole.queue) = (0, independent::requests::queue::Queue::EMPTY);
+    for k in 0..base.count as usize {
+        let c = &mut base.carrier[k];
+        if c.in_buffer() {
+            *c = Carrier::new(c.name);
+        }
+        let p = &mut whole.predictions.of[k];
+        p.state = 2;
+        if c.at_port() {
+            let ready = base.port[c.port as usize - 1].transfer == transfer::READY_TO_UNLOAD;
+            p.state = if ready { 3 } else { rng.pick(&[3, 3, 4, 5]) };
+            if rng.chance(50) {
+                p.set_tp(rng.pick(&[0, 50, 110, 111, 500]));
+            }
+        }
+    }
+    // One at least can be told of.
+    if let Some(k) = base.carriers().iter().position(Carrier::at_port) {
+        whole.predictions.of[k].state = 3;
+    }
+    if base.carriers().iter().filter(|c| c.expected()).count() > 16 || !sound(&whole) {
+        return foretelling(carriers, family, rng);
+    }
+    whole
 }
 
 /// Requests for none, some or all carriers in the buffer, in any order; one may be started at each port that is untied,
@@ -148,14 +181,16 @@ fn ask(tool: &mut Tool, rng: &mut Rng) {
 
 /// A state with so many records and an input of this row; accepted, or refused, if some draws can have it so.
 pub fn prepared(carriers: usize, family: usize, row: u32, accepted: bool, rng: &mut Rng) -> (Tool, Input) {
+    // With a buffer an input that names a carrier and a time is always refused.
+    let draw = if row > 31 { foretelling } else { tool };
     for _ in 0..40 {
-        let tool = tool(carriers, family, rng);
+        let tool = draw(carriers, family, rng);
         let input = input(&tool, row, family, accepted, rng);
         if (answer(&tool, &input) == 0) == accepted {
             return (tool, input);
         }
     }
-    let tool = tool(carriers, family, rng);
+    let tool = draw(carriers, family, rng);
     (tool, input(&tool, row, family, accepted, rng))
 }
 
@@ -184,6 +219,8 @@ fn input(tool: &Tool, row: u32, family: usize, accepted: bool, rng: &mut Rng) ->
             value: if row == 18 { 1 + rng.below(16) } else { rng.below(2) },
             name: name(family, k),
             codes: codes(tool, row, k as usize, rng),
+            clock: if is_timed(row) { rng.pick(&[49, 50, 50, 51, 110, 230]) } else { 0 },
+            time: if is_timed(row) { rng.pick(&[0, 50, 110, 111, 230]) } else { 0 },
         };
         if (answer(tool, &input) == 0) == accepted {
             break;
@@ -207,7 +244,7 @@ fn codes(tool: &Tool, row: u32, k: usize, rng: &mut Rng) -> Vec<u8> {
 
 fn answer(tool: &Tool, i: &Input) -> u32 {
     let (mut next, mut reports) = (*tool, Reports::NONE);
-    step(&mut next, i.number, i.port, i.value, &i.name, &i.codes, &mut reports)
+    step(&mut next, i, &mut reports)
 }
 
 #[cfg(test)]
