@@ -278,19 +278,31 @@ pub(super) fn sound(t: &Tool) -> bool {
         && predictions_agree(t, live)
 }
 
-/// Each is in its range; only a carrier at a port has left WAITING FOR CARRIER, and none is PREDICTED or
-/// ABORTED with its port READY TO UNLOAD. What is wrong is gathered without a branch.
+/// Which states a carrier may have that isn't at a port (bit 0), that is at one (bit 1), and at one that is
+/// READY TO UNLOAD (bit 2): only a carrier at a port has left WAITING FOR CARRIER, and none is PREDICTED or
+/// ABORTED with its port READY TO UNLOAD.
+const MAY_BE: [u8; 8] = [0, 0b110, 0b111, 0b110, 0b010, 0b010, 0b110, 0];
+
+/// The bits of Tp, and of Te behind it, that are 0 where neither is there, Tp alone, Te alone, and both.
+const MUST_BE_0: [u64; 4] = [u64::MAX, u64::MAX << 32, u64::MAX >> 32, 0];
+
+/// Each is in its range, and in a state that its carrier may have. What is wrong is gathered without a branch.
 #[inline]
 fn predictions_agree(t: &Tool, live: &[Prediction]) -> bool {
-    let is_ready = |p: u8| t.base.port[p as usize].transfer == transfer::READY_TO_UNLOAD;
-    let ready = (0..t.base.ports).fold(0u32, |bits, p| bits | (is_ready(p) as u32) << (p + 1));
-    let agrees = |(p, c): (&Prediction, &Carrier)| {
-        let in_range = (p.state.wrapping_sub(DISABLED) < COMPLETED) & ((p.has_tp | p.has_te) <= 1);
-        let (no_tp, no_te) = ((p.has_tp as u32).wrapping_sub(1), (p.has_te as u32).wrapping_sub(1));
-        let times = (u32::from_le_bytes(p.tp) & no_tp) | (u32::from_le_bytes(p.te) & no_te);
-        let at_port = (p.state == WAITING_FOR_CARRIER) | c.at_port();
-        let open = (p.state == PREDICTED) | (p.state == ABORTED);
-        in_range & (times == 0) & at_port & !(open & (ready >> c.port & 1 != 0))
+    // Where a carrier is, as a bit of `MAY_BE`: by its port, if it is at one.
+    let mut at = [0b010; 8];
+    for (p, port) in t.base.ports().iter().enumerate() {
+        at[p + 1] <<= (port.transfer == transfer::READY_TO_UNLOAD) as u8;
+    }
+    let wrong = |p: &Prediction, c: &Carrier| {
+        let seat = if c.at_port() { at[c.port as usize & 7] } else { 0b001 };
+        let strange = (MAY_BE[p.state as usize & 7] & seat == 0) as u8;
+        let beyond = (p.state & !7) | ((p.has_tp | p.has_te) & !1);
+        let [a, b, c, d] = p.tp;
+        let [e, f, g, h] = p.te;
+        let times = u64::from_le_bytes([a, b, c, d, e, f, g, h]);
+        let there = (p.has_tp | p.has_te << 1) as usize & 3;
+        times & MUST_BE_0[there] | (strange | beyond) as u64
     };
-    live.iter().zip(&t.base.carrier).fold(true, |good, pair| good & agrees(pair))
+    live.iter().zip(&t.base.carrier).fold(0, |sum, (p, c)| sum | wrong(p, c)) == 0
 }
