@@ -87,16 +87,7 @@ fn compare(
 ) -> Result<Table, Finding> {
     let mut table = Table::begin();
     let mut rng = Rng::new(SEED);
-    table.line("the twelve rows", &twelve::compare(both)?);
-    table.line("document 01's edges", &edges::compare(both)?);
-    table.line("slot maps the tool can judge", &maps::compare(both)?);
-    table.line("names padded with blanks", &names::compare(both)?);
-    table.texts = names::texts(both, total, &mut rng)?;
-    table.line("a queue for CarrierOut", &out::compare(both)?);
-    table.line("prediction of ready to unload", &foretold::compare(both)?);
-    table.line("every state of small tools with a queue", &small::queues(both)?);
-    table.line("every state of small tools that foretell", &small::predictions(both)?);
-    table.line("set-ups in and out of range", &setups::compare(both, &mut rng)?);
+    edges_of_requests(both, total, &mut table, &mut rng)?;
     let along_runs = runs::compare(both, total, &mut rng)?;
     table.line("random runs, every P and B", &along_runs);
     (table.along_runs, table.runs_accepted) = (along_runs.pairs, along_runs.percent());
@@ -118,4 +109,19 @@ fn compare(
     table.replies = replies::compare(repliers, messages / 4, &mut rng)?;
     table.logs = judge::compare(judges, messages / 4, &mut rng)?;
     Ok(table)
+}
+
+/// What the documents give by hand, and all of small tools.
+fn edges_of_requests(both: &Both, total: u64, table: &mut Table, rng: &mut Rng) -> Result<(), Finding> {
+    table.line("the twelve rows", &twelve::compare(both)?);
+    table.line("document 01's edges", &edges::compare(both)?);
+    table.line("slot maps the tool can judge", &maps::compare(both)?);
+    table.line("names padded with blanks", &names::compare(both)?);
+    table.texts = names::texts(both, total, rng)?;
+    table.line("a queue for CarrierOut", &out::compare(both)?);
+    table.line("prediction of ready to unload", &foretold::compare(both)?);
+    table.line("every state of small tools with a queue", &small::queues(both)?);
+    table.line("every state of small tools that foretell", &small::predictions(both)?);
+    table.line("set-ups in and out of range", &setups::compare(both, rng)?);
+    Ok(())
 }

@@ -254,22 +254,6 @@ mod tests {
         let named = |tool: &Tool| field(tool.bytes().iter().position(|&b| b != 0).unwrap());
         tool.unused[0] = 1;
         assert_eq!(named(&tool), "unused");
-        tool.predictions.of[35].te[3] = 1;
-        assert_eq!(named(&tool), "record 36 Te");
-        tool.predictions.of[35].tp[0] = 1;
-        assert_eq!(named(&tool), "record 36 Tp");
-        tool.predictions.of[35].has_te = 1;
-        assert_eq!(named(&tool), "record 36 has Te");
-        tool.predictions.of[0].has_tp = 1;
-        assert_eq!(named(&tool), "record 1 has Tp");
-        tool.predictions.of[0].state = 1;
-        assert_eq!(named(&tool), "record 1 prediction");
-        tool.predictions.timeout[3] = 1;
-        assert_eq!(named(&tool), "timeout");
-        tool.predictions.setting[0] = 1;
-        assert_eq!(named(&tool), "setting");
-        tool.predictions.clock[3] = 1;
-        assert_eq!(named(&tool), "clock");
         tool.queue.request[15].started = 1;
         assert_eq!(named(&tool), "request 16 started");
         tool.queue.request[15].port = 1;
@@ -293,6 +277,28 @@ mod tests {
         assert_eq!(base(|tool| tool.port[3].movement = 1), "port 4 movement");
         assert_eq!(base(|tool| tool.port[0].tie[0] = 1), "port 1 tie");
         assert_eq!(base(|tool| tool.count = 1), "count");
+    }
+
+    #[test]
+    fn bytes_of_predictions_have_names() {
+        let mut tool = Tool::NONE;
+        let named = |tool: &Tool| field(tool.bytes().iter().position(|&b| b != 0).unwrap());
+        tool.predictions.of[35].te[3] = 1;
+        assert_eq!(named(&tool), "record 36 Te");
+        tool.predictions.of[35].tp[0] = 1;
+        assert_eq!(named(&tool), "record 36 Tp");
+        tool.predictions.of[35].has_te = 1;
+        assert_eq!(named(&tool), "record 36 has Te");
+        tool.predictions.of[0].has_tp = 1;
+        assert_eq!(named(&tool), "record 1 has Tp");
+        tool.predictions.of[0].state = 1;
+        assert_eq!(named(&tool), "record 1 prediction");
+        tool.predictions.timeout[3] = 1;
+        assert_eq!(named(&tool), "timeout");
+        tool.predictions.setting[0] = 1;
+        assert_eq!(named(&tool), "setting");
+        tool.predictions.clock[3] = 1;
+        assert_eq!(named(&tool), "clock");
     }
 
     #[test]

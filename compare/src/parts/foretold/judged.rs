@@ -26,22 +26,12 @@ pub fn at_the_timeout(both: &Both, tally: &mut Tally) -> Result<(), Finding> {
     for timeout in [0, 1, 2, 120, 86_400] {
         let mut player = accessed(both, tally, (60, timeout), &[b"A"])?;
         player.expect(tp(1000, b"A", 1000), 0)?;
-        for (after, reports) in
-            [(0, "none"), (timeout.max(1) - 1, "none"), (timeout, "8 A 4>5"), (timeout + 1, "8 A 4>5")]
-        {
-            let reports = if timeout == 0 { "none" } else { reports };
-            if after > 0 || timeout != 0 {
-                player
-                    .expect_reports(&clock(1000 + after), if after < timeout { "none" } else { reports })?;
-                player.expect_reports(
-                    &te(1000, b"A", 1000 + after),
-                    if after < timeout { "none" } else { reports },
-                )?;
-            }
+        for after in [0, timeout.max(1) - 1, timeout, timeout + 1, LAST - 1000] {
+            let aborts = timeout != 0 && after >= timeout;
+            let reports = if aborts { "8 A 4>5" } else { "none" };
+            player.expect_reports(&clock(1000 + after), reports)?;
+            player.expect_reports(&te(1000, b"A", 1000 + after), reports)?;
         }
-        let last = if timeout == 0 { "none" } else { "8 A 4>5" };
-        player.expect_reports(&clock(LAST), last)?;
-        player.expect_reports(&te(1000, b"A", LAST), last)?;
     }
     Ok(())
 }

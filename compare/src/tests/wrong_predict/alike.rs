@@ -65,6 +65,11 @@ fn both_wrong_alike_about_a_turn_is_against_the_documents() {
         }
     };
     assert_eq!(against(jumps, without_buffer), "each turn begins where the one before it ended");
+}
+
+/// Of turns where there should be none, or in another place.
+#[test]
+fn both_wrong_alike_about_more_turns_is_against_the_documents() {
     let revives: Fault = |before, input, o| {
         let done = (0..before.base.count as usize).find(|&i| before.predictions.of[i].state == 6);
         if let (true, Some(i)) = (is(input, o, 31, 0) && o.reports.count < 9, done) {
@@ -87,7 +92,7 @@ fn both_wrong_alike_about_a_turn_is_against_the_documents() {
     assert_eq!(against(too_early, without_buffer), "reports stand in the order of their models");
 }
 
-/// The same of the clock, of what is kept, and of refusals.
+/// The same of the clock, and of the times of the set-up.
 #[test]
 fn both_wrong_alike_about_a_time_is_against_the_documents() {
     let back: Fault = |before, input, o| {
@@ -108,6 +113,11 @@ fn both_wrong_alike_about_a_time_is_against_the_documents() {
         }
     };
     assert_eq!(against(setting, without_buffer), "setting and timeout stay as set up");
+}
+
+/// Of what is kept.
+#[test]
+fn both_wrong_alike_about_what_is_kept_is_against_the_documents() {
     let te_is_lost: Fault = |_, input, o| {
         if is(input, o, 31, 0) {
             o.tool.predictions.of.iter_mut().for_each(|p| (p.has_te, p.te) = (0, [0; 4]));
@@ -127,6 +137,11 @@ fn both_wrong_alike_about_a_time_is_against_the_documents() {
         }
     };
     assert_eq!(against(inherits, without_buffer), "a new record has no Tp and no Te");
+}
+
+/// Of 11.
+#[test]
+fn both_wrong_alike_about_11_is_against_the_documents() {
     let eleven_first: Fault = |before, input, o| {
         let back = brings_clock(input) && input.clock < before.predictions.clock();
         o.answer = if back && o.answer == 5 { 11 } else { o.answer };

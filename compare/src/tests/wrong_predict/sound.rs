@@ -25,7 +25,7 @@ fn at_ready_port(tool: &Tool, i: usize) -> bool {
 /// Programs that don't look at one of the words on soundness.
 #[test]
 fn faults_of_soundness_of_predictions_are_found() {
-    let mistakes: [fn(&Tool) -> Tool; 12] = [
+    let mistakes: [fn(&Tool) -> Tool; 4] = [
         |tool| {
             let mut whole = *tool;
             whole.predictions.setting = tool.predictions.setting().min(86_400).to_le_bytes();
@@ -50,6 +50,16 @@ fn faults_of_soundness_of_predictions_are_found() {
             }
             whole
         },
+    ];
+    for (k, tool) in mistakes.into_iter().enumerate() {
+        found(k, tool, ("sound", "not sound"));
+    }
+}
+
+/// The same of the words on a single prediction.
+#[test]
+fn faults_of_soundness_of_a_prediction_are_found() {
+    let mistakes: [fn(&Tool) -> Tool; 8] = [
         |tool| mended(tool, |_, _, p| p.state = if p.state == 0 || p.state > 6 { 2 } else { p.state }),
         |tool| mended(tool, |_, _, p| p.has_tp = p.has_tp.min(1)),
         |tool| mended(tool, |_, _, p| p.has_te = p.has_te.min(1)),

@@ -174,14 +174,17 @@ fn clocks(before: &Tool, i: &Input, out: &Reports, all: &mut Vec<&'static str>) 
         let by_port = port(one) < port(other);
         all.push(if by_port { "two judged at once" } else { "two judged, not in the order of their ports" });
     }
-    let mut last = turns(out).next();
-    for r in turns(out).skip(1) {
-        if last.is_some_and(|last| last.name == r.name && last.old == 3) && i.number != 34 {
-            let completed =
-                [(4, "judged at a ready port, 24 and 25"), (5, "judged at a ready port, abort and 29")];
-            all.extend(completed.iter().filter(|(old, _)| *old == r.old).map(|(_, what)| *what));
-        }
-        last = Some(r);
+    if i.number != 34 {
+        all.extend(turns(out).zip(turns(out).skip(1)).filter_map(completed));
+    }
+}
+
+/// Two turns of a carrier that was ready when it was judged.
+fn completed((one, other): (&Report, &Report)) -> Option<&'static str> {
+    match (one.name == other.name && one.old == 3, other.old) {
+        (true, 4) => Some("judged at a ready port, 24 and 25"),
+        (true, 5) => Some("judged at a ready port, abort and 29"),
+        _ => None,
     }
 }
 

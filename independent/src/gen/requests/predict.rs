@@ -198,12 +198,7 @@ pub(super) fn draw(t: &mut Tool, rng: &mut Rng) {
     if t.base.places > 0 {
         return;
     }
-    for port in t.base.port[..t.base.ports as usize].iter_mut().filter(|port| !port.tied()) {
-        if rng.chance(15) {
-            (port.transfer, port.movement) = (transfer::BLOCKED, movement::NONE);
-            (port.pod, port.tag) = (1, tag::FAILED);
-        }
-    }
+    draw_unknown_pods(t, rng);
     let having = rng.pick(&[0, 30, 70, 100, 100]);
     let strange = rng.pick(&[0, 10, 60]);
     for i in 0..t.base.count as usize {
@@ -224,6 +219,16 @@ pub(super) fn draw(t: &mut Tool, rng: &mut Rng) {
             p.state = state::WAITING_FOR_CARRIER;
         }
         t.predictions.of[i] = p;
+    }
+}
+
+/// Pods that a cancel may make records of.
+fn draw_unknown_pods(t: &mut Tool, rng: &mut Rng) {
+    for port in t.base.port[..t.base.ports as usize].iter_mut().filter(|port| !port.tied()) {
+        if rng.chance(15) {
+            (port.transfer, port.movement) = (transfer::BLOCKED, movement::NONE);
+            (port.pod, port.tag) = (1, tag::FAILED);
+        }
     }
 }
 
