@@ -2,20 +2,22 @@
  * Hawsermole: SEMI E87 carrier management for load ports, pods and the buffer of one wafer tool.
  * Verify the pod before you open it.
  *
- * Three steps: hm_setup once, hm_step for every input, and after each accepted input pass the reports on.
+ * Three steps: hm_setup once, hm_step for every input, and after each accepted input pass the reports on. A fixed
+ * buffer tool that predicts when a carrier is ready to unload calls hm_time_step, too, with the clock.
  * A host's S3F17 goes to hm_secs_exchange as it came: the text is read, what it asks for is stepped, and the text of
  * S3F18, the answer to the host, is written into room that you lend. hm_secs_step is the same without the reply.
  * The rules are document 01's, with document 02's requests P1, expected maps, P3, SECS-II from the host bridge,
- * P4, names padded with blanks, P5, a queue for CarrierOut, P2: hm_waiting, and P13, answers to the bridge. hm_judge,
- * P14, judges a log by document 01 without any request.
+ * P4, names padded with blanks, P5, a queue for CarrierOut, P7, prediction of ready to unload, P2: hm_waiting, and P13,
+ * answers to the bridge. hm_judge, P14, judges a log by document 01 without any request.
  * C99, C11 and C++17.
  * Link with libhawsermole.a; see examples/firmware.c and examples/host_bridge.c. hawsermole_words.h has words for the
  * numbers, and a carrier by its name; hawsermole_events.h SEMI E87's numbers of what a report tells.
  * docs/LANDINGS.md is the list of changes.
  *
  * WHAT THE LIBRARY ANSWERS FOR
- * Every input is answered. The number, the port and the value may be any 32-bit number, the name, the codes, a message
- * and a log any bytes of any length, and the tool may hold any bytes. A refused input changes nothing in the tool.
+ * Every input is answered. The number, the port, the value and times may be any 32-bit number, the name, the codes, a
+ * message and a log any bytes of any length, and the tool may hold any bytes. A refused input changes nothing in the
+ * tool.
  * A tool is plain bytes without pointers: it may be copied, compared with memcmp, kept in battery-backed memory
  * and handed back after a restart. A damaged one that is no longer sound is refused, never acted on. Sound is
  * not the same as true: damage that leaves a sound tool can't be seen, so keep a checksum beside a stored one.
@@ -50,8 +52,8 @@
 extern "C" {
 #endif
 
-/* The version of this header, 0x00MMmmpp: 0.9.0. hm_version is the archive's; compare the two once at start. */
-#define HM_VERSION 0x000900
+/* The version of this header, 0x00MMmmpp: 0.10.0. hm_version is the archive's; compare the two once at start. */
+#define HM_VERSION 0x000A00
 
 /* Limits. */
 #define HM_PORTS 4                 /* a tool has 1 to 4 ports */
@@ -61,8 +63,9 @@ extern "C" {
 #define HM_REQUESTS 16             /* requests of CarrierOut that may be queued at once, for all ports together */
 #define HM_SLOTS 25                /* codes of a slot map */
 #define HM_CODE_GREATEST 5         /* each code is 0 to 5 */
-#define HM_REPORTS 7               /* reports of one input */
-#define HM_INPUTS 30               /* inputs are numbered 1 to 30 */
+#define HM_REPORTS 10              /* reports of one input; no input gives more than nine */
+#define HM_INPUTS 34               /* inputs are numbered 1 to 34 */
+#define HM_SECONDS_GREATEST 86400  /* setting time and timeout of predictions are 0 to 86,400 seconds each: a day */
 #define HM_NAME_BYTES 16           /* a name is 1 to 16 bytes, */
 #define HM_NAME_BYTE_LEAST 0x21    /* each from 0x21 */
 #define HM_NAME_BYTE_GREATEST 0x7E /* to 0x7E */
@@ -71,10 +74,10 @@ extern "C" {
 #define HM_SECS_ITEMS 128          /* items of a message */
 #define HM_SECS_DEPTH 6            /* lists of a message, one in another, the outermost at one */
 #define HM_REPLY_ROOM 95           /* bytes of room that every reply fits into: 15 and a text of at most 80 */
-#define HM_SPARE_BYTES 702         /* bytes of a tool that hold nothing yet */
+#define HM_SPARE_BYTES 294         /* bytes of a tool that hold nothing yet */
 #define HM_TOOL_BYTES 3782
 #define HM_TOOL_01_BYTES 1891      /* the first of them: document 01's tool, without the requests */
-#define HM_REPORTS_BYTES 141
+#define HM_REPORTS_BYTES 201
 
 /* Stack that one call may need, with room to spare; tests/c/stack.c measures it, and on boards `make board`. */
 #define HM_STACK_BYTES 4096
@@ -128,17 +131,21 @@ enum hm_input {
     HM_INPUT_OUT_START = 27,                   /* port: starts the oldest request that is ready for it */
     HM_INPUT_OUT_DONE = 28,                    /* port: the carrier of the request started to it stands there */
     HM_INPUT_CANCEL_CARRIER_OUT = 29,          /* name: drops its request; 5 where that is started */
-    HM_INPUT_CANCEL_ALL_CARRIER_OUT = 30       /* nothing: drops all requests that aren't started, also none */
+    HM_INPUT_CANCEL_ALL_CARRIER_OUT = 30,      /* nothing: drops all requests that aren't started, also none */
+    HM_INPUT_CLOCK = 31,                       /* clock; this one and the next three go to hm_time_step */
+    HM_INPUT_PREDICTED_TIME = 32,              /* clock, name, time: when the carrier will be ready to unload, Tp */
+    HM_INPUT_ESTIMATE = 33,                    /* clock, name, time: when it is expected to be by now, Te */
+    HM_INPUT_NO_PREDICTION = 34                /* clock, name: no time can be predicted */
 };
 
 /*
- * The answers of hm_step: accepted, or the lowest refusal, 1 to 10, that applies. hm_setup answers 0 or 1. The last
- * one is of the functions that write a reply, hm_reply and hm_secs_exchange, alone.
+ * The answers of hm_step and hm_time_step: accepted, or the lowest refusal, 1 to 11, that applies. hm_setup answers 0
+ * or 1. The last one is of the functions that write a reply, hm_reply and hm_secs_exchange, alone.
  */
 enum hm_answer {
     HM_ACCEPTED = 0,
     HM_REFUSED_OUT_OF_RANGE = 1,          /* a port, place, value or name is outside its range, the input number
-                                             isn't 1 to 30, or the tool isn't sound: hm_sound tells which */
+                                             isn't 1 to 34, or the tool isn't sound: hm_sound tells which */
     HM_REFUSED_NO_RECORD = 2,             /* the name has no record */
     HM_REFUSED_NAME_TAKEN = 3,            /* the name is taken */
     HM_REFUSED_RESERVED_OR_TIED = 4,      /* the port is reserved or tied, or a request is started to it */
@@ -148,6 +155,7 @@ enum hm_answer {
     HM_REFUSED_PLACE_OR_OPENER_TAKEN = 8, /* the buffer place is taken, or the opener is in use */
     HM_REFUSED_QUEUE_FULL = 9,            /* 16 requests of CarrierOut are queued already, this carrier's too */
     HM_REFUSED_QUEUED_ALREADY = 10,       /* this carrier's CarrierOut is queued already, to whatever port */
+    HM_REFUSED_CLOCK_EARLIER = 11,        /* the clock is earlier than the last that was accepted */
     HM_REFUSED_ROOM_TOO_SMALL = 14        /* the reply is longer than the room lent for it: nothing was written */
 };
 
@@ -175,7 +183,7 @@ enum hm_verdict {
     HM_REFUSED_LOG_CUT_SHORT = 29    /* the file ends inside its head, or inside an entry */
 };
 
-/* The models of reports. The subject is a port in 1 to 4 and a name in 5 to 7. */
+/* The models of reports. The subject is a port in 1 to 4 and a name in 5 to 8. */
 enum hm_model {
     HM_MODEL_TRANSFER = 1,    /* states: enum hm_transfer */
     HM_MODEL_ACCESS = 2,      /* enum hm_access */
@@ -183,10 +191,11 @@ enum hm_model {
     HM_MODEL_TIE = 4,         /* enum hm_tie; 1 to 1: the tie passed to another carrier */
     HM_MODEL_ID = 5,          /* enum hm_status */
     HM_MODEL_SLOT = 6,        /* enum hm_status */
-    HM_MODEL_ACCESSING = 7    /* enum hm_accessing */
+    HM_MODEL_ACCESSING = 7,   /* enum hm_accessing */
+    HM_MODEL_PREDICTION = 8   /* enum hm_prediction_state; of fixed buffer tools alone */
 };
 
-/* In models 5 to 7: the carrier had no record before, or has none any more. */
+/* In models 5 to 8: the carrier had no record before, or has none any more. */
 #define HM_NO_STATE 0
 
 enum hm_transfer {
@@ -226,6 +235,24 @@ enum hm_accessing {
     HM_ACCESSING_IN_ACCESS = 2,
     HM_ACCESSING_COMPLETE = 3,
     HM_ACCESSING_STOPPED = 4
+};
+
+/*
+ * Where the prediction of a carrier stands, in a fixed buffer tool. A new record waits for its carrier. AccessStart
+ * makes it wait for a predicted time, Tp, or DISABLED where the setting time is 0. After each accepted input that
+ * brings the clock every carrier with a Tp is judged: ABORTED where the timeout isn't 0 and the estimate, Te, is at
+ * least Tp plus timeout, from WAITING_FOR_PREDICTION too; else PREDICTED as soon as Tp is no further away than the
+ * setting time. Where no estimate was given, it is the clock once Tp has passed. A carrier that is PREDICTED or ABORTED
+ * is COMPLETED when its port is READY TO UNLOAD. CancelCarrier of one that waits for its carrier goes through to
+ * COMPLETED at once, or to DISABLED.
+ */
+enum hm_prediction_state {
+    HM_PREDICTION_DISABLED = 1,
+    HM_PREDICTION_WAITING_FOR_CARRIER = 2,
+    HM_PREDICTION_WAITING_FOR_PREDICTION = 3,
+    HM_PREDICTION_PREDICTED = 4,
+    HM_PREDICTION_ABORTED = 5,
+    HM_PREDICTION_COMPLETED = 6
 };
 
 /* Values of ChangeServiceStatus and of AccessEnd. */
@@ -283,7 +310,21 @@ typedef struct hm_request {
     uint8_t started;             /* enum hm_started */
 } hm_request;
 
-/* Read it as you like; change it through hm_step alone. Port number N is ports[N - 1]. */
+/* A number of seconds, the low byte first: hm_seconds reads it. */
+typedef struct hm_time {
+    uint8_t bytes[4];
+} hm_time;
+
+/* The prediction of a carrier. All zero where there is no carrier, and in a tool with a buffer. */
+typedef struct hm_prediction {
+    uint8_t state;               /* enum hm_prediction_state */
+    uint8_t has_predicted;       /* 0 or 1, as the next */
+    uint8_t has_estimate;
+    hm_time predicted;           /* Tp, when has_predicted is 1; else 0 */
+    hm_time estimate;            /* Te, when has_estimate is 1; else 0 */
+} hm_prediction;
+
+/* Read it as you like; change it through hm_step and hm_time_step alone. Port number N is ports[N - 1]. */
 typedef struct hm_tool {
     uint8_t used;                                /* ports of this tool */
     uint8_t places;                              /* buffer places of this tool */
@@ -293,6 +334,10 @@ typedef struct hm_tool {
     uint8_t expected_maps[HM_RECORDS][HM_SLOTS]; /* of the carrier with the same index; all zero: none */
     uint8_t queued;                              /* requests of CarrierOut in the queue */
     hm_request queue[HM_REQUESTS];               /* the oldest first; all zero past queued */
+    hm_time clock;                               /* the last that was accepted; 0 at first */
+    hm_time setting;                             /* a carrier is PREDICTED so long before Tp; 0: never */
+    hm_time timeout;                             /* a prediction is ABORTED so long after Tp; 0: never */
+    hm_prediction predictions[HM_RECORDS];       /* of the carrier with the same index */
     uint8_t spare[HM_SPARE_BYTES];               /* all zero */
 } hm_tool;
 
@@ -308,14 +353,15 @@ typedef struct hm_tool_01 {
 typedef struct hm_report {
     uint8_t model;               /* enum hm_model */
     uint8_t port;                /* models 1 to 4: the port; else 0 */
-    uint8_t name[HM_NAME_BYTES]; /* models 5 to 7: the carrier; else no name */
+    uint8_t name[HM_NAME_BYTES]; /* models 5 to 8: the carrier; else no name */
     uint8_t old_state;
     uint8_t new_state;
 } hm_report;
 
 typedef struct hm_reports {
     uint8_t count;
-    hm_report items[HM_REPORTS]; /* by model, a removed carrier before the others; all zero past count */
+    hm_report items[HM_REPORTS]; /* by model, a removed carrier before the others; in model 8 each transition in turn;
+                                    all zero past count */
 } hm_reports;
 
 /* What hm_waiting found. */
@@ -333,11 +379,12 @@ typedef struct hm_judged {
 } hm_judged;
 
 /*
- * Sets up a tool of 1 to 4 ports and 0 to 16 buffer places. Whatever the tool held before is gone.
- * 0: every port READY TO LOAD and MANUAL, no carrier. 1: out of range; the tool is all zeros, which is no tool:
- * it isn't sound, and every input to it is answered 1 until a set-up succeeds.
+ * Sets up a tool of 1 to 4 ports and 0 to 16 buffer places, with the setting time and the timeout of its predictions,
+ * 0 to HM_SECONDS_GREATEST seconds each; 0 and 0 for a tool that predicts nothing. Whatever the tool held before is
+ * gone. 0: every port READY TO LOAD and MANUAL, no carrier, clock 0. 1: out of range; the tool is all zeros, which is
+ * no tool: it isn't sound, and every input to it is answered 1 until a set-up succeeds.
  */
-uint32_t hm_setup(hm_tool *tool, uint32_t ports, uint32_t places);
+uint32_t hm_setup(hm_tool *tool, uint32_t ports, uint32_t places, uint32_t setting, uint32_t timeout);
 
 /*
  * Gives one input to the tool and answers it, by enum hm_answer. What the reports held before is gone.
@@ -346,9 +393,27 @@ uint32_t hm_setup(hm_tool *tool, uint32_t ports, uint32_t places);
  * A name is given by its own bytes and its own length, without the zeros that pad it inside the structs. Blanks at its
  * end are dropped before the row sees it: record, comparison and report have the name that hm_name tells. A text
  * that is no name is refused with 1 by every input that reads a name; length 0 alone is no name given.
+ * Inputs 31 to 34 bring a clock, for which hm_step has no argument: it takes them with clock 0 and time 0, so that they
+ * are refused with 11 once a later clock was accepted. hm_time_step is the one to call.
  */
 uint32_t hm_step(hm_tool *tool, hm_reports *reports, uint32_t number, uint32_t port, uint32_t value,
                  const uint8_t *name, uint64_t name_length, const uint8_t *codes, uint64_t codes_length);
+
+/*
+ * Gives the tool an input that brings the clock, HM_INPUT_CLOCK to HM_INPUT_NO_PREDICTION; any other number is
+ * answered 1. Answer, tool and reports are as hm_step leaves them, and the name is taken in the same way.
+ * Send Clock as often as predictions are to be judged: once a second is enough. Send PredictedTime once for a carrier
+ * that is WAITING FOR PREDICTION, as soon as you know when it will be ready to unload; Estimate whenever you have
+ * calculated that time anew, or never; NoPrediction where it can't be known.
+ * Clock and time are whole seconds of one clock of yours, which may begin anywhere and never goes back: one earlier
+ * than the last that was accepted is refused with 11, an equal one isn't. The time is Tp or Te, and may be earlier than
+ * the clock. Clock reads neither name nor time, NoPrediction no time. For the inputs of hm_step it is the last clock
+ * accepted that counts.
+ * 2: the name has no record. 5: the tool has a buffer; Tp or NoPrediction for a carrier that isn't WAITING FOR
+ * PREDICTION; a second Tp; an estimate without a Tp.
+ */
+uint32_t hm_time_step(hm_tool *tool, hm_reports *reports, uint32_t number, uint32_t clock,
+                      const uint8_t *name, uint64_t name_length, uint32_t time);
 
 /*
  * How many bytes of a text, from its first, are the name that an input with it has: 1 to 16. 0: refused, since it has
@@ -438,6 +503,13 @@ uint32_t hm_reports_size(void);
 }
 #endif
 
+/* Seconds as a number, on every machine. */
+static inline uint32_t hm_seconds(const hm_time *time)
+{
+    return (uint32_t)time->bytes[0] | (uint32_t)time->bytes[1] << 8 | (uint32_t)time->bytes[2] << 16 |
+           (uint32_t)time->bytes[3] << 24;
+}
+
 /* The layout that the archive was made for. C99 has no static assertion: an array of -1 bytes stops it there. */
 #if defined(__cplusplus)
 #define HM_HOLDS(name, fact) static_assert(fact, #name)
@@ -475,6 +547,16 @@ HM_AT(hm_request, name, 0);
 HM_AT(hm_request, port, 16);
 HM_AT(hm_request, started, 17);
 
+HM_HOLDS(hm_time_size, sizeof(hm_time) == 4);
+HM_AT(hm_time, bytes, 0);
+
+HM_HOLDS(hm_prediction_size, sizeof(hm_prediction) == 11);
+HM_AT(hm_prediction, state, 0);
+HM_AT(hm_prediction, has_predicted, 1);
+HM_AT(hm_prediction, has_estimate, 2);
+HM_AT(hm_prediction, predicted, 3);
+HM_AT(hm_prediction, estimate, 7);
+
 HM_HOLDS(hm_found_size, sizeof(hm_found) == 16);
 HM_AT(hm_found, position, 0);
 HM_AT(hm_found, read, 8);
@@ -488,7 +570,11 @@ HM_AT(hm_tool, carriers, 91);
 HM_AT(hm_tool, expected_maps, 1891);
 HM_AT(hm_tool, queued, 2791);
 HM_AT(hm_tool, queue, 2792);
-HM_AT(hm_tool, spare, 3080);
+HM_AT(hm_tool, clock, 3080);
+HM_AT(hm_tool, setting, 3084);
+HM_AT(hm_tool, timeout, 3088);
+HM_AT(hm_tool, predictions, 3092);
+HM_AT(hm_tool, spare, 3488);
 
 HM_HOLDS(hm_tool_01_size, sizeof(hm_tool_01) == HM_TOOL_01_BYTES);
 HM_AT(hm_tool_01, used, 0);

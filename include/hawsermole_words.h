@@ -15,12 +15,12 @@ static inline const char *hm_word(const char *const *words, uint32_t count, uint
 
 #define HM_WORD(words, number) hm_word((words), sizeof(words) / sizeof((words)[0]), (number))
 
-/* An answer of hm_step, hm_setup or hm_secs_step. */
+/* An answer of hm_step, hm_time_step, hm_setup or hm_secs_step. */
 static inline const char *hm_answer_text(uint32_t answer)
 {
     static const char *const of_tool[] = {
         "accepted",
-        "a port, place, value or name is outside its range, the input number isn't 1 to 30, or the state isn't sound",
+        "a port, place, value or name is outside its range, the input number isn't 1 to 34, or the state isn't sound",
         "the name has no record",
         "the name is taken",
         "the port is reserved or tied",
@@ -30,6 +30,7 @@ static inline const char *hm_answer_text(uint32_t answer)
         "the buffer place is taken, or the opener is in use",
         "the queue for CarrierOut is full",
         "CarrierOut is queued already",
+        "the clock is earlier than the last accepted",
     };
     static const char *const of_message[] = {
         "the message is cut short",
@@ -64,7 +65,7 @@ static inline const char *hm_input_text(uint32_t number)
         "CancelCarrier", "CarrierOut", "CarrierIn", "ChangeAccess", "ChangeServiceStatus", "ReserveAtPort",
         "CancelReservationAtPort", "LoadStart", "LoadDone", "LoadFail", "IdRead", "IdReadFailed", "MoveIn", "Open",
         "SlotMap", "AccessStart", "AccessEnd", "Close", "UnloadStart", "UnloadDone", "UnloadFail", "OutStart",
-        "OutDone", "CancelCarrierOut", "CancelAllCarrierOut",
+        "OutDone", "CancelCarrierOut", "CancelAllCarrierOut", "Clock", "PredictedTime", "Estimate", "NoPrediction",
     };
     return HM_WORD(names, number - 1);
 }
@@ -74,12 +75,12 @@ static inline const char *hm_model_text(uint32_t model)
 {
     static const char *const models[] = {
         "transfer state", "access mode", "reservation state", "association state",
-        "ID status", "slot map status", "accessing status",
+        "ID status", "slot map status", "accessing status", "ready to unload prediction status",
     };
     return HM_WORD(models, model - 1);
 }
 
-/* A state of a model: old_state or new_state of a report, or a field of a port or carrier. */
+/* A state of a model: old_state or new_state of a report, or a field of a port, carrier or prediction. */
 static inline const char *hm_state_text(uint32_t model, uint32_t state)
 {
     static const char *const transfer[] = {"OUT OF SERVICE", "READY TO LOAD", "READY TO UNLOAD", "TRANSFER BLOCKED"};
@@ -96,6 +97,10 @@ static inline const char *hm_state_text(uint32_t model, uint32_t state)
     static const char *const accessing[] = {
         "no state", "NOT ACCESSED", "IN ACCESS", "CARRIER COMPLETE", "CARRIER STOPPED",
     };
+    static const char *const prediction[] = {
+        "no state", "PREDICTION DISABLED", "WAITING FOR CARRIER", "WAITING FOR PREDICTION", "PREDICTED",
+        "PREDICTION ABORTED", "PREDICTION COMPLETED",
+    };
     switch (model) {
     case HM_MODEL_TRANSFER: return HM_WORD(transfer, state);
     case HM_MODEL_ACCESS: return HM_WORD(access, state);
@@ -104,6 +109,7 @@ static inline const char *hm_state_text(uint32_t model, uint32_t state)
     case HM_MODEL_ID: return HM_WORD(id, state);
     case HM_MODEL_SLOT: return HM_WORD(slot, state);
     case HM_MODEL_ACCESSING: return HM_WORD(accessing, state);
+    case HM_MODEL_PREDICTION: return HM_WORD(prediction, state);
     default: return "out of range";
     }
 }
@@ -162,6 +168,17 @@ static inline const hm_carrier *hm_find(const hm_tool *tool, const uint8_t *name
         }
     }
     return NULL;
+}
+
+/*
+ * The prediction of a name, or NULL where it has no record, or the tool has a buffer and predicts nothing. Name and
+ * tool are given as to hm_find; hm_seconds reads its times.
+ */
+static inline const hm_prediction *hm_find_prediction(const hm_tool *tool, const uint8_t *name, uint64_t length)
+{
+    const hm_carrier *carrier = tool->places == 0 ? hm_find(tool, name, length) : NULL;
+
+    return carrier == NULL ? NULL : &tool->predictions[carrier - tool->carriers];
 }
 
 #endif
