@@ -506,8 +506,12 @@ uint32_t hm_reports_size(void);
 /* Seconds as a number, on every machine. */
 static inline uint32_t hm_seconds(const hm_time *time)
 {
-    return (uint32_t)time->bytes[0] | (uint32_t)time->bytes[1] << 8 | (uint32_t)time->bytes[2] << 16 |
-           (uint32_t)time->bytes[3] << 24;
+    uint32_t seconds = 0, i;
+
+    for (i = sizeof time->bytes; i > 0; i--) {
+        seconds = seconds << 8 | time->bytes[i - 1];
+    }
+    return seconds;
 }
 
 /* The layout that the archive was made for. C99 has no static assertion: an array of -1 bytes stops it there. */

@@ -4,8 +4,8 @@ use crate::name::write_text;
 use crate::row::{Argument, Row, ROWS};
 use core::fmt;
 
-/// One input: document 01's 26 rows and the four of request P5, with their arguments in the documents' order. Rows 1
-/// and 3 have two cases each, without an expected map and with one.
+/// One input: document 01's 26 rows and four each of the requests P5 and P7, with their arguments in the documents'
+/// order. Rows 1 and 3 have two cases each, without an expected map and with one.
 ///
 /// A port, place or value is any 32-bit number, a name and codes are any bytes of any length:
 /// what is outside its range is answered with [`Refusal::OutOfRange`](crate::Refusal::OutOfRange), not cut.
@@ -84,12 +84,22 @@ pub enum Input<'a> {
     CancelCarrierOut { name: &'a [u8] },
     /// 30: drops all requests that aren't started; accepted even with none.
     CancelAllCarrierOut,
+    /// 31: the time, in seconds of one clock that never goes back; this and the next three judge every
+    /// [prediction](crate::Tool::predictions) by it.
+    Clock { clock: u32 },
+    /// 32: when a carrier that is WAITING FOR PREDICTION will be ready to unload. Once for a carrier.
+    PredictedTime { clock: u32, name: &'a [u8], tp: u32 },
+    /// 33: when it is expected to be by now. As often as it is calculated anew; without any, the clock is taken for it
+    /// once the predicted time has passed.
+    Estimate { clock: u32, name: &'a [u8], te: u32 },
+    /// 34: no time can be predicted for a carrier that is WAITING FOR PREDICTION.
+    NoPrediction { clock: u32, name: &'a [u8] },
 }
 
 /// An input as the machine takes it. A row looks only at the parts that it names.
 #[derive(Clone, Copy, Debug, Default, PartialEq, Eq, Hash)]
 pub struct Parts<'a> {
-    /// The row: 1 to 30.
+    /// The row: 1 to 34.
     pub number: u32,
     /// The port.
     pub port: u32,
@@ -99,6 +109,10 @@ pub struct Parts<'a> {
     pub name: &'a [u8],
     /// The codes of a slot map, or of an expected map.
     pub codes: &'a [u8],
+    /// The clock, in seconds.
+    pub clock: u32,
+    /// The predicted or estimated time, in seconds of the clock.
+    pub time: u32,
 }
 
 impl<'a> Parts<'a> {
@@ -120,6 +134,14 @@ impl<'a> Parts<'a> {
 
     fn codes(self, codes: &'a [u8]) -> Parts<'a> {
         Parts { codes, ..self }
+    }
+
+    fn clock(self, clock: u32) -> Parts<'a> {
+        Parts { clock, ..self }
+    }
+
+    fn time(self, time: u32) -> Parts<'a> {
+        Parts { time, ..self }
     }
 }
 
@@ -168,10 +190,14 @@ impl<'a> Input<'a> {
             Input::OutDone { port } => row(28).port(port),
             Input::CancelCarrierOut { name } => row(29).name(name),
             Input::CancelAllCarrierOut => row(30),
+            Input::Clock { clock } => row(31).clock(clock),
+            Input::PredictedTime { clock, name, tp } => row(32).clock(clock).name(name).time(tp),
+            Input::Estimate { clock, name, te } => row(33).clock(clock).name(name).time(te),
+            Input::NoPrediction { clock, name } => row(34).clock(clock).name(name),
         }
     }
 
-    /// The input of its parts; none if the number isn't 1 to 30, or if rows 1 and 3 carry codes that are no expected
+    /// The input of its parts; none if the number isn't 1 to 34, or if rows 1 and 3 carry codes that are no expected
     /// map. Parts that the row doesn't name are left out.
     ///
     /// ```
@@ -179,11 +205,11 @@ impl<'a> Input<'a> {
     ///
     /// let parts = Parts { number: 13, port: 1, ..Parts::default() };
     /// assert_eq!(Input::from_parts(&parts), Some(Input::LoadStart { port: 1 }));
-    /// assert_eq!(Input::from_parts(&Parts { number: 31, ..parts }), None);
+    /// assert_eq!(Input::from_parts(&Parts { number: 35, ..parts }), None);
     /// assert_eq!(Input::from_parts(&Parts { number: 1, codes: &[5; 25], ..parts }), None);
     /// ```
     pub fn from_parts(parts: &Parts<'a>) -> Option<Input<'a>> {
-        let Parts { number, port, value, name, codes } = *parts;
+        let Parts { number, port, value, name, codes, clock, time } = *parts;
         Some(match number {
             1 if codes.is_empty() => Input::Bind { port, name },
             1 => Input::BindWithMap { port, name, map: ExpectedMap::new(codes).ok()? },
@@ -217,11 +243,15 @@ impl<'a> Input<'a> {
             28 => Input::OutDone { port },
             29 => Input::CancelCarrierOut { name },
             30 => Input::CancelAllCarrierOut,
+            31 => Input::Clock { clock },
+            32 => Input::PredictedTime { clock, name, tp: time },
+            33 => Input::Estimate { clock, name, te: time },
+            34 => Input::NoPrediction { clock, name },
             _ => return None,
         })
     }
 
-    /// The documents' number, 1 to 30.
+    /// The documents' number, 1 to 34.
     pub fn number(&self) -> u32 {
         self.parts().number
     }
@@ -264,7 +294,7 @@ impl fmt::Display for Input<'_> {
 ///
 /// let parts = Parts { number: 1, port: 1, name: b"AB", codes: &[5, 5], ..Parts::default() };
 /// assert_eq!(parts.to_string(), "Bind(1, AB, 2 codes)");
-/// assert_eq!(Parts { number: 31, ..parts }.to_string(), "31");
+/// assert_eq!(Parts { number: 35, ..parts }.to_string(), "35");
 /// ```
 impl fmt::Display for Parts<'_> {
     fn fmt(&self, f: &mut fmt::Formatter<'_>) -> fmt::Result {
@@ -284,6 +314,8 @@ impl fmt::Display for Parts<'_> {
                 Argument::Access | Argument::Service | Argument::Place | Argument::End => {
                     write!(f, "{}", self.value)?
                 }
+                Argument::Clock => write!(f, "{}", self.clock)?,
+                Argument::Tp | Argument::Te => write!(f, "{}", self.time)?,
             }
         }
         f.write_str(")")
@@ -296,12 +328,14 @@ mod tests {
     use std::format;
 
     const NAME: &[u8] = b"AB";
+    const CLOCK: u32 = 18;
+    const TIME: u32 = u32::MAX;
 
-    /// An input, its number, and its port, value, name and codes.
+    /// An input, its number, and its port, value, name and codes; those of P7 have the clock and time above.
     type Case = (Input<'static>, u32, u32, u32, &'static [u8], &'static [u8]);
 
     #[rustfmt::skip]
-    fn every_input() -> [Case; 32] {
+    fn every_input() -> [Case; 36] {
         let (name, codes): (_, &[u8]) = (NAME, &[3; 25]);
         let map = ExpectedMap::new(codes).unwrap();
         [
@@ -337,13 +371,19 @@ mod tests {
             (Input::OutDone { port: 17 }, 28, 17, 0, &[], &[]),
             (Input::CancelCarrierOut { name }, 29, 0, 0, NAME, &[]),
             (Input::CancelAllCarrierOut, 30, 0, 0, &[], &[]),
+            (Input::Clock { clock: CLOCK }, 31, 0, 0, &[], &[]),
+            (Input::PredictedTime { clock: CLOCK, name, tp: TIME }, 32, 0, 0, NAME, &[]),
+            (Input::Estimate { clock: CLOCK, name, te: TIME }, 33, 0, 0, NAME, &[]),
+            (Input::NoPrediction { clock: CLOCK, name }, 34, 0, 0, NAME, &[]),
         ]
     }
 
     #[test]
     fn every_input_has_its_number_and_arguments() {
         for (input, number, port, value, name, codes) in every_input() {
-            assert_eq!(input.parts(), Parts { number, port, value, name, codes });
+            let clock = if number > 30 { CLOCK } else { 0 };
+            let time = if [32, 33].contains(&number) { TIME } else { 0 };
+            assert_eq!(input.parts(), Parts { number, port, value, name, codes, clock, time });
             assert_eq!(input.number(), number);
             assert_eq!(Input::from_parts(&input.parts()), Some(input));
         }
@@ -366,7 +406,7 @@ mod tests {
 
     #[test]
     fn odd_numbers_are_no_input() {
-        for number in [0, 31, 255, 256, 257, 286, u32::MAX] {
+        for number in [0, 35, 255, 256, 257, 286, u32::MAX] {
             assert_eq!(Input::from_parts(&Parts { number, ..Parts::default() }), None);
         }
     }
@@ -375,7 +415,7 @@ mod tests {
     #[test]
     fn codes_that_are_no_map_are_no_input() {
         for codes in [&[3; 24][..], &[0; 25], &[4; 25], &[3; 26]] {
-            for number in 1..=30 {
+            for number in 1..=34 {
                 let input = Input::from_parts(&Parts { number, codes, ..Parts::default() });
                 assert_eq!(input.is_none(), matches!(number, 1 | 3), "{number}");
             }
@@ -392,6 +432,11 @@ mod tests {
         assert_eq!(
             format!("{}", Input::AccessEnd { name: b"a b\xff", end: 1 }),
             "AccessEnd(a\\x20b\\xff, 1)"
+        );
+        let predicted = Input::PredictedTime { clock: 9, name: NAME, tp: 69 };
+        assert_eq!(
+            (format!("{predicted}"), format!("{}", Input::Clock { clock: 9 })),
+            ("PredictedTime(9, AB, 69)".into(), "Clock(9)".into())
         );
     }
 }

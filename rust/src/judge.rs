@@ -86,11 +86,12 @@ impl fmt::Display for LogRefusal {
 impl core::error::Error for LogRefusal {}
 
 /// Judges a log by document 01 as it stands before any request: no expected map, no blank at the end of a name, and no
-/// queue: CarrierOut moves the carrier at once, and inputs are 1 to 26.
+/// queue: CarrierOut moves the carrier at once, inputs are 1 to 26, and models 1 to 7.
 /// `include/hawsermole.h` has the log's layout. It may be any bytes of any length, and is read once.
 ///
 /// The tool becomes document 01's after the last input that it was given, that of an entry that disagrees included: the
-/// state to look at. It is no tool where the head is refused.
+/// state to look at. What requests have added is as at set-up: no map, no queue, and predictions that wait for their
+/// carriers. It is no tool where the head is refused.
 ///
 /// ```
 /// use hawsermole::{judge, LogRefusal, Tool, Verdict};
@@ -114,6 +115,7 @@ pub fn judge(log: &[u8], tool: &mut Tool) -> Verdict {
     let mut reports = [0; REPORTS_BYTES];
     // No place is past the log's end, and no answer above 8.
     let (says, [entries, at, answer]) = machine::judge(log, tool.only_document_01(), &mut reports);
+    tool.wait_for_carriers();
     let at = at as usize;
     match says {
         0 => Verdict::Agrees { entries },
@@ -153,5 +155,19 @@ mod tests {
         assert_eq!(tool, Tool::setup(2, 3).unwrap());
         judge(b"CMT\0\x01\x05\x03", &mut tool);
         assert_eq!(tool, Tool::none());
+    }
+
+    /// In a fixed buffer tool a carrier has a prediction, which no log tells of.
+    #[test]
+    fn the_tool_is_sound_with_carriers() {
+        let mut tool = Tool::none();
+        for (places, predictions) in [(0, 1), (3, 0)] {
+            let mut log = *b"CMT\0\x01\x02\0\x03\0\0\x01A\0\0";
+            log[6] = places;
+            let judged = judge(&log, &mut tool);
+            assert!(matches!(judged, Verdict::Disagrees { entry: 0, .. }), "{judged:?}");
+            assert!(tool.is_sound() && tool.carriers().len() == 1);
+            assert_eq!(tool.predictions().count(), predictions);
+        }
     }
 }

@@ -2,13 +2,13 @@
 //! load ports, pods and the buffer, one input at a time, no heap.
 //!
 //! The machine itself is an archive, `libhawsermole.a`, proved to give exactly the answer, the state and the
-//! reports that document 01 lays down, with document 02's requests P1, P3, P4, P5, P6 and P13. This crate wraps it: an
+//! reports that document 01 lays down, with document 02's requests P1, P3 to P7 and P13. This crate wraps it: an
 //! [`Input`] has the documents' name and arguments, a [`Refusal`] is one of their reasons, [`Reports`] gives what
 //! changed and [`Event`] which transitions of E87 that is, an [`ExpectedMap`] lets the tool judge a slot map that the
 //! host knows beforehand, [`Name::in_text`] tells which name a tag reader's text has without the blanks at its end,
-//! [`Tool::requests`] are the requests of CarrierOut that wait for their port, [`Tool::secs_step`] takes a host's S3F17
-//! as it came, and [`Tool::secs_exchange`] writes the S3F18 that answers it, too. [`states`] has every state by E87's
-//! word.
+//! [`Tool::requests`] are the requests of CarrierOut that wait for their port, [`Tool::predictions`] tell when carriers
+//! are ready to unload, [`Tool::secs_step`] takes a host's S3F17 as it came, and [`Tool::secs_exchange`] writes the
+//! S3F18 that answers it, too. [`states`] has every state by E87's word.
 //!
 //! ```
 //! use hawsermole::{Input, Model, Refusal, Subject, Tool};
@@ -57,6 +57,7 @@ mod judge;
 mod machine;
 mod map;
 mod name;
+mod prediction;
 pub mod raw;
 mod refusal;
 mod reply;
@@ -73,6 +74,7 @@ pub use input::{Input, Parts};
 pub use judge::{judge, LogRefusal, Verdict};
 pub use map::{ExpectedMap, MapError};
 pub use name::{Name, NameError, NAME_BYTES, TEXT_BYTES};
+pub use prediction::{Prediction, SECONDS_MOST};
 pub use raw::{secs_at, CARRIER_BYTES, REPORTS_BYTES, TOOL_01_BYTES, TOOL_BYTES};
 pub use refusal::Refusal;
 pub use reply::{reply, Exchanged, REPLY_ROOM};

@@ -1,12 +1,13 @@
 //! The archive's functions behind safe ones, which call no archive of another version.
 use crate::input::Parts;
 use crate::raw::{self, CARRIER_BYTES, REPORTS_BYTES, TOOL_01_BYTES, TOOL_BYTES};
+use crate::row::brings_clock;
 
 /// Sets a tool up; a refused set-up leaves all zeros.
-pub fn setup(tool: &mut [u8; TOOL_BYTES], ports: u32, places: u32) -> u32 {
+pub fn setup(tool: &mut [u8; TOOL_BYTES], ports: u32, places: u32, setting: u32, timeout: u32) -> u32 {
     check_sizes();
     // SAFETY: the archive writes to the tool alone, which is lent to it, and the sizes agree.
-    unsafe { raw::hm_setup(tool, ports, places) }
+    unsafe { raw::hm_setup(tool, ports, places, setting, timeout) }
 }
 
 /// Whether a tool, whatever its bytes, is sound.
@@ -19,9 +20,14 @@ pub fn sound(tool: &[u8; TOOL_BYTES]) -> bool {
 /// One input: the answer; tool and reports are written.
 pub fn step(tool: &mut [u8; TOOL_BYTES], reports: &mut [u8; REPORTS_BYTES], parts: &Parts<'_>) -> u32 {
     check_sizes();
-    let Parts { number, port, value, name, codes } = *parts;
+    let Parts { number, port, value, name, codes, clock, time } = *parts;
     // SAFETY: the sizes agree.
-    unsafe { raw::step(tool, reports, number, port, value, name, codes) }
+    unsafe {
+        match brings_clock(number) {
+            true => raw::time_step(tool, reports, number, clock, name, time),
+            false => raw::step(tool, reports, number, port, value, name, codes),
+        }
+    }
 }
 
 /// Whether a record of a table waits for the host; its position, or the length, and how many records were read.

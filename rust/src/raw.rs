@@ -8,20 +8,20 @@
 //! let (mut tool, mut reports) = ([0; TOOL_BYTES], [0; REPORTS_BYTES]);
 //! // SAFETY: the sizes agree.
 //! let answer = unsafe {
-//!     raw::hm_setup(&mut tool, 2, 0);
+//!     raw::hm_setup(&mut tool, 2, 0, 60, 120);
 //!     raw::step(&mut tool, &mut reports, 13, 1, 0, b"", b"")
 //! };
 //! assert_eq!((answer, reports[0]), (0, 1));
 //! ```
 
 /// The version of this crate as a number, 0x00MMmmpp; `HM_VERSION` of the header.
-pub const VERSION: u32 = 0x000900;
+pub const VERSION: u32 = 0x000A00;
 /// How many bytes a tool has.
 pub const TOOL_BYTES: usize = 3782;
 /// How many bytes document 01's tool has, with which a tool begins.
 pub const TOOL_01_BYTES: usize = 1891;
 /// How many bytes the reports of an input have.
-pub const REPORTS_BYTES: usize = 141;
+pub const REPORTS_BYTES: usize = 201;
 /// How many bytes a carrier's record has.
 pub const CARRIER_BYTES: usize = 50;
 
@@ -35,8 +35,8 @@ unsafe extern "C" {
     pub safe fn hm_reports_size() -> u32;
     /// The first record of a table that waits for the host; [`waiting`] is the same with a slice.
     pub fn hm_waiting(carriers: *const [u8; CARRIER_BYTES], count: u64, found: &mut [u64; 2]) -> u32;
-    /// Sets a tool up; a refused set-up leaves all zeros.
-    pub fn hm_setup(tool: &mut [u8; TOOL_BYTES], ports: u32, places: u32) -> u32;
+    /// Sets a tool up, with the setting time and the timeout of predictions; a refused set-up leaves all zeros.
+    pub fn hm_setup(tool: &mut [u8; TOOL_BYTES], ports: u32, places: u32, setting: u32, timeout: u32) -> u32;
     /// 1 if a tool, whatever its bytes, is sound, else 0.
     pub fn hm_sound(tool: &[u8; TOOL_BYTES]) -> u32;
     /// How many bytes of a text are its name, 0 where it is refused; [`name_length`] is the same with a slice.
@@ -83,6 +83,16 @@ unsafe extern "C" {
         name_length: u64,
         codes: *const u8,
         codes_length: u64,
+    ) -> u32;
+    /// One of the inputs 31 to 34, which bring the clock; [`time_step`] is the same with a slice.
+    pub fn hm_time_step(
+        tool: &mut [u8; TOOL_BYTES],
+        reports: &mut [u8; REPORTS_BYTES],
+        number: u32,
+        clock: u32,
+        name: *const u8,
+        name_length: u64,
+        time: u32,
     ) -> u32;
 }
 
@@ -136,6 +146,23 @@ pub unsafe fn step(
     unsafe {
         hm_step(tool, reports, number, port, value, name.as_ptr(), name_length, codes.as_ptr(), codes_length)
     }
+}
+
+/// One of the inputs 31 to 34, which bring the clock: the answer; tool and reports are written in place.
+///
+/// # Safety
+/// [`sizes_agree`].
+#[inline(always)]
+pub unsafe fn time_step(
+    tool: &mut [u8; TOOL_BYTES],
+    reports: &mut [u8; REPORTS_BYTES],
+    number: u32,
+    clock: u32,
+    name: &[u8],
+    time: u32,
+) -> u32 {
+    // SAFETY: as for `step`.
+    unsafe { hm_time_step(tool, reports, number, clock, name.as_ptr(), name.len() as u64, time) }
 }
 
 /// A message, read and then stepped: the answer; tool, reports and the count of items are written in place.
@@ -242,11 +269,13 @@ mod tests {
 
     #[test]
     fn sizes_are_the_sum_of_their_parts() {
+        use crate::prediction::PREDICTIONS_BYTES;
         use crate::request::QUEUE_BYTES;
         use crate::tool::{HEAD_BYTES, PORT_BYTES, SPARE_BYTES};
         use crate::{PORTS, RECORDS, SLOTS};
         assert_eq!(TOOL_01_BYTES, HEAD_BYTES + PORTS * PORT_BYTES + RECORDS * CARRIER_BYTES);
-        assert_eq!(TOOL_BYTES, TOOL_01_BYTES + RECORDS * SLOTS + QUEUE_BYTES + SPARE_BYTES);
+        let requests = RECORDS * SLOTS + QUEUE_BYTES + PREDICTIONS_BYTES;
+        assert_eq!(TOOL_BYTES, TOOL_01_BYTES + requests + SPARE_BYTES);
         assert_eq!(REPORTS_BYTES, 1 + crate::REPORTS * crate::report::REPORT_BYTES);
     }
 }

@@ -1,9 +1,9 @@
 //! Why an input is refused.
 use core::fmt;
 
-/// Why an input was refused: document 01's eight reasons and the two of request P5, of which the lowest that applies is
-/// given; or why a message was, by request P3: the first that its reading meets, and the lowest at one item; or that a
-/// reply had no room, by request P13.
+/// Why an input was refused: document 01's eight reasons, the two of request P5 and the one of request P7, of which the
+/// lowest that applies is given; or why a message was, by request P3: the first that its reading meets, and the lowest
+/// at one item; or that a reply had no room, by request P13.
 ///
 /// ```
 /// use hawsermole::{Input, Refusal, Tool};
@@ -17,7 +17,7 @@ use core::fmt;
 #[derive(Clone, Copy, Debug, PartialEq, Eq, PartialOrd, Ord, Hash)]
 #[repr(u8)]
 pub enum Refusal {
-    /// 1: a port, place, value or name is outside its range, the input number isn't 1 to 30, or the state isn't sound;
+    /// 1: a port, place, value or name is outside its range, the input number isn't 1 to 34, or the state isn't sound;
     /// also codes that are no slot map, or no [`ExpectedMap`](crate::ExpectedMap) in rows 1 and 3, and a text in which
     /// there is no [`Name`](crate::Name::in_text).
     OutOfRange = 1,
@@ -40,6 +40,8 @@ pub enum Refusal {
     QueueFull = 9,
     /// 10: the carrier's CarrierOut is queued already, to whatever port, started or not.
     QueuedAlready = 10,
+    /// 11: the clock is earlier than the last that was accepted.
+    ClockEarlier = 11,
     /// 14: the reply is longer than the room lent for it. Nothing was written, and the tool got no input.
     RoomTooSmall = 14,
     /// 20: the message ends inside an item, or before one that a list counts.
@@ -59,8 +61,8 @@ pub enum Refusal {
 }
 
 impl Refusal {
-    /// All eighteen, by number.
-    pub const ALL: [Refusal; 18] = [
+    /// All nineteen, by number.
+    pub const ALL: [Refusal; 19] = [
         Refusal::OutOfRange,
         Refusal::NoRecord,
         Refusal::NameTaken,
@@ -71,6 +73,7 @@ impl Refusal {
         Refusal::PlaceOrOpenerTaken,
         Refusal::QueueFull,
         Refusal::QueuedAlready,
+        Refusal::ClockEarlier,
         Refusal::RoomTooSmall,
         Refusal::CutShort,
         Refusal::UnknownCode,
@@ -81,7 +84,7 @@ impl Refusal {
         Refusal::ShapeOrAction,
     ];
 
-    /// The documents' number: 1 to 10, 14 for a reply, and 20 to 26 for a message.
+    /// The documents' number: 1 to 11, 14 for a reply, and 20 to 26 for a message.
     pub const fn number(self) -> u8 {
         self as u8
     }
@@ -104,7 +107,7 @@ impl Refusal {
     ///
     /// assert_eq!(Refusal::from_number(7), Some(Refusal::NotVerified));
     /// assert_eq!(Refusal::from_number(0), None);
-    /// assert_eq!(Refusal::from_number(11), None);
+    /// assert_eq!(Refusal::from_number(12), None);
     /// assert_eq!(Refusal::from_number(26), Some(Refusal::ShapeOrAction));
     /// ```
     pub fn from_number(number: u32) -> Option<Refusal> {
@@ -115,7 +118,7 @@ impl Refusal {
     pub const fn text(self) -> &'static str {
         match self {
             Refusal::OutOfRange => {
-                "a port, place, value or name is outside its range, the input number isn't 1 to 30, \
+                "a port, place, value or name is outside its range, the input number isn't 1 to 34, \
                  or the state isn't sound"
             }
             Refusal::NoRecord => "the name has no record",
@@ -127,6 +130,7 @@ impl Refusal {
             Refusal::PlaceOrOpenerTaken => "the buffer place is taken, or the opener is in use",
             Refusal::QueueFull => "the queue for CarrierOut is full",
             Refusal::QueuedAlready => "CarrierOut is queued already",
+            Refusal::ClockEarlier => "the clock is earlier than the last accepted",
             Refusal::RoomTooSmall => "the room lent is too small",
             Refusal::CutShort => "the message is cut short",
             Refusal::UnknownCode => "unknown format code",
@@ -162,12 +166,12 @@ mod tests {
 
     #[test]
     fn numbers_go_both_ways() {
-        for (number, refusal) in (1..=10).chain([14]).chain(20..=26).zip(Refusal::ALL) {
+        for (number, refusal) in (1..=11).chain([14]).chain(20..=26).zip(Refusal::ALL) {
             assert_eq!(refusal.number(), number);
             assert_eq!(refusal.is_of_message(), number > 14);
             assert_eq!(Refusal::from_number(u32::from(refusal.number())), Some(refusal));
         }
-        for odd in [0, 11, 13, 15, 19, 27, 255, 256, 257, 276, u32::MAX] {
+        for odd in [0, 12, 13, 15, 19, 27, 255, 256, 257, 276, u32::MAX] {
             assert_eq!(Refusal::from_number(odd), None);
         }
     }
@@ -177,6 +181,7 @@ mod tests {
         assert_eq!(Refusal::NotVerified.to_string(), "not verified");
         assert_eq!(Refusal::ExpectedFull.to_string(), "16 carriers are expected already");
         assert_eq!(Refusal::QueueFull.to_string(), "the queue for CarrierOut is full");
+        assert_eq!(Refusal::ClockEarlier.to_string(), "the clock is earlier than the last accepted");
         assert_eq!(Refusal::BytesLeftOver.to_string(), "bytes left over");
         assert_eq!(Refusal::RoomTooSmall.to_string(), "the room lent is too small");
         assert!(Refusal::OutOfRange.to_string().ends_with("or the state isn't sound"));

@@ -6,10 +6,10 @@ use crate::words;
 use core::fmt;
 
 /// The most reports that one input gives.
-pub const REPORTS: usize = 7;
+pub const REPORTS: usize = 10;
 pub(crate) const REPORT_BYTES: usize = 20;
 
-/// Which of E87's state models a report speaks of. Models 1 to 4 belong to a port, 5 to 7 to a carrier.
+/// Which of E87's state models a report speaks of. Models 1 to 4 belong to a port, 5 to 8 to a carrier.
 #[derive(Clone, Copy, Debug, PartialEq, Eq, PartialOrd, Ord, Hash)]
 #[repr(u8)]
 pub enum Model {
@@ -27,11 +27,13 @@ pub enum Model {
     Slot = 6,
     /// 7: a carrier's accessing status.
     Accessing = 7,
+    /// 8: a carrier's prediction of ready to unload, in fixed buffer tools alone.
+    Prediction = 8,
 }
 
 impl Model {
-    /// All seven, by number.
-    pub const ALL: [Model; 7] = [
+    /// All eight, by number.
+    pub const ALL: [Model; 8] = [
         Model::Transfer,
         Model::Access,
         Model::Reservation,
@@ -39,26 +41,28 @@ impl Model {
         Model::Id,
         Model::Slot,
         Model::Accessing,
+        Model::Prediction,
     ];
 
-    /// Document 01's number, 1 to 7.
+    /// The documents' number, 1 to 8.
     pub const fn number(self) -> u8 {
         self as u8
     }
 
-    /// The model of a number; none outside 1 to 7.
+    /// The model of a number; none outside 1 to 8.
     pub fn from_number(number: u8) -> Option<Model> {
         Model::ALL.into_iter().find(|model| model.number() == number)
     }
 
-    /// The table of SEMI E87-0312 that has the model's transitions.
+    /// The table of SEMI E87-0312 that has the model's transitions; those of model 8 are in the same table of document
+    /// 000, which revises E87-0921.
     pub const fn table(self) -> u8 {
         match self {
             Model::Transfer => 5,
             Model::Access => 9,
             Model::Reservation => 10,
             Model::Tie => 11,
-            Model::Id | Model::Slot | Model::Accessing => 7,
+            Model::Id | Model::Slot | Model::Accessing | Model::Prediction => 7,
         }
     }
 
@@ -80,6 +84,7 @@ impl Model {
             Model::Id => words::id(number),
             Model::Slot => words::slot(number),
             Model::Accessing => words::accessing(number),
+            Model::Prediction => words::prediction(number),
         }
     }
 }
@@ -96,7 +101,7 @@ impl fmt::Display for Model {
 pub enum Subject {
     /// A port, by number: models 1 to 4.
     Port(u8),
-    /// A carrier, by name: models 5 to 7.
+    /// A carrier, by name: models 5 to 8.
     Carrier(Name),
 }
 
@@ -143,7 +148,8 @@ impl fmt::Display for Report {
     }
 }
 
-/// The reports of one accepted input, in order of model: an iterator of at most seven [`Report`]s.
+/// The reports of one accepted input, in order of model: an iterator of at most ten [`Report`]s. Of model 8 each
+/// transition is reported in turn, so that a carrier may come several times.
 ///
 /// ```
 /// use hawsermole::{Input, Model, Subject, Tool};
@@ -168,7 +174,7 @@ impl Reports {
         Reports { bytes, given: 0 }
     }
 
-    /// All the bytes as the machine wrote them: the count, then seven entries of 20 bytes, zero past the count.
+    /// All the bytes as the machine wrote them: the count, then ten entries of 20 bytes, zero past the count.
     pub fn as_bytes(&self) -> &[u8; REPORTS_BYTES] {
         &self.bytes
     }
@@ -180,12 +186,12 @@ impl Reports {
     fn report(&self, place: usize) -> Report {
         let start = 1 + place * REPORT_BYTES;
         let entry = &self.bytes[start..start + REPORT_BYTES];
-        let model = Model::from_number(entry[0]).expect("the machine reports models 1 to 7");
+        let model = Model::from_number(entry[0]).expect("the machine reports models 1 to 8");
         let mut name = [0; NAME_BYTES];
         name.copy_from_slice(&entry[2..2 + NAME_BYTES]);
         let subject = match model {
-            Model::Id | Model::Slot | Model::Accessing => Subject::Carrier(Name::new(name)),
-            _ => Subject::Port(entry[1]),
+            Model::Transfer | Model::Access | Model::Reservation | Model::Tie => Subject::Port(entry[1]),
+            _ => Subject::Carrier(Name::new(name)),
         };
         Report { model, subject, old: entry[18], new: entry[19] }
     }
@@ -298,6 +304,6 @@ mod tests {
             assert_eq!(Model::from_number(model.number()), Some(model));
         }
         assert_eq!(Model::from_number(0), None);
-        assert_eq!(Model::from_number(8), None);
+        assert_eq!(Model::from_number(9), None);
     }
 }

@@ -1,14 +1,14 @@
 //! The queue for CarrierOut, as the tool holds it.
 use crate::name::{Name, NAME_BYTES};
-use crate::raw::TOOL_BYTES;
-use crate::tool::{name_at, Tool, SPARE_BYTES};
+use crate::prediction::TIMES_START;
+use crate::tool::{name_at, Tool};
 
 /// The most requests of CarrierOut that are queued at once, for all ports together.
 pub const REQUESTS: usize = 16;
 
 const REQUEST_BYTES: usize = NAME_BYTES + 2;
 pub(crate) const QUEUE_BYTES: usize = 1 + REQUESTS * REQUEST_BYTES;
-const QUEUE_START: usize = TOOL_BYTES - SPARE_BYTES - QUEUE_BYTES;
+pub(crate) const QUEUE_START: usize = TIMES_START - QUEUE_BYTES;
 
 /// A request of CarrierOut: a carrier in the buffer is to come to a port.
 #[derive(Clone, Copy, Debug, PartialEq, Eq, Hash)]
@@ -68,6 +68,7 @@ impl Tool {
 #[cfg(test)]
 mod tests {
     use super::*;
+    use crate::raw::TOOL_BYTES;
     use std::vec::Vec;
 
     /// Each byte is its own place, as far as a byte reaches, so that a field read from a wrong place shows.

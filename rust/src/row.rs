@@ -23,6 +23,12 @@ pub enum Argument {
     Codes,
     /// The 25 codes of an expected map, or none. It stands last, and may be left out.
     MapOrNone,
+    /// The clock, in seconds.
+    Clock,
+    /// The predicted time of ready to unload, in seconds of the clock: document 000's Tp.
+    Tp,
+    /// The estimated time of ready to unload, in seconds of the clock: document 000's Te.
+    Te,
 }
 
 impl Argument {
@@ -37,6 +43,9 @@ impl Argument {
             Argument::End => "end",
             Argument::Codes => "codes",
             Argument::MapOrNone => "map",
+            Argument::Clock => "clock",
+            Argument::Tp => "tp",
+            Argument::Te => "te",
         }
     }
 }
@@ -44,7 +53,7 @@ impl Argument {
 /// A row of document 01, or of a request: one kind of input.
 #[derive(Clone, Copy, Debug, PartialEq, Eq)]
 pub struct Row {
-    /// 1 to 30.
+    /// 1 to 34.
     pub number: u32,
     /// The documents' name.
     pub name: &'static str,
@@ -57,14 +66,14 @@ pub struct Row {
 }
 
 impl Row {
-    /// The row of a number; none outside 1 to 30.
+    /// The row of a number; none outside 1 to 34.
     ///
     /// ```
     /// use hawsermole::Row;
     ///
     /// assert_eq!(Row::numbered(20).unwrap().name, "SlotMap");
     /// assert_eq!(Row::numbered(0), None);
-    /// assert_eq!(Row::numbered(31), None);
+    /// assert_eq!(Row::numbered(35), None);
     /// ```
     pub fn numbered(number: u32) -> Option<&'static Row> {
         ROWS.iter().find(|row| row.number == number)
@@ -85,7 +94,14 @@ impl Row {
     }
 }
 
-use Argument::{Access, Codes, End, MapOrNone, Name, NameOrNone, Place, Port, PortOrNone, Service};
+/// Whether this is an input that brings the clock: 31 to 34.
+pub(crate) const fn brings_clock(number: u32) -> bool {
+    matches!(number, 31..=34)
+}
+
+use Argument::{
+    Access, Clock, Codes, End, MapOrNone, Name, NameOrNone, Place, Port, PortOrNone, Service, Te, Tp,
+};
 
 const fn row(number: u32, name: &'static str, arguments: &'static [Argument], text: &'static str) -> Row {
     Row { number, name, arguments, text, conditions: None }
@@ -97,8 +113,8 @@ impl Row {
     }
 }
 
-/// The 30 rows, by number.
-pub const ROWS: [Row; 30] = [
+/// The 34 rows, by number.
+pub const ROWS: [Row; 34] = [
     row(
         1,
         "Bind",
@@ -156,6 +172,14 @@ pub const ROWS: [Row; 30] = [
     row(29, "CancelCarrierOut", &[Name], "take a carrier's CarrierOut back")
         .needs("the carrier's CarrierOut queued and not started"),
     row(30, "CancelAllCarrierOut", &[], "take back every CarrierOut that isn't started"),
+    row(31, "Clock", &[Clock], "tell the time: every prediction is judged by it"),
+    row(32, "PredictedTime", &[Clock, Name, Tp], "predict when the carrier will be ready to unload").needs(
+        "a tool without a buffer, and the carrier's prediction WAITING FOR PREDICTION and without a predicted time",
+    ),
+    row(33, "Estimate", &[Clock, Name, Te], "estimate anew when the carrier will be ready to unload")
+        .needs("a tool without a buffer, and a predicted time of the carrier"),
+    row(34, "NoPrediction", &[Clock, Name], "no ready to unload time can be predicted for the carrier")
+        .needs("a tool without a buffer, and the carrier's prediction WAITING FOR PREDICTION"),
 ];
 
 #[cfg(test)]
@@ -164,7 +188,8 @@ mod tests {
     use crate::{Input, Parts};
 
     /// Every part given: what an input keeps of them is what its row names.
-    const FULL: Parts<'static> = Parts { number: 0, port: 3, value: 9, name: b"N", codes: &[3; 25] };
+    const FULL: Parts<'static> =
+        Parts { number: 0, port: 3, value: 9, name: b"N", codes: &[3; 25], clock: 7, time: 8 };
 
     fn named_parts(row: &Row) -> Parts<'static> {
         let mut parts = Parts { number: row.number, ..Parts::default() };
@@ -173,6 +198,8 @@ mod tests {
                 "port" => parts.port = FULL.port,
                 "name" => parts.name = FULL.name,
                 "codes" | "map" => parts.codes = FULL.codes,
+                "clock" => parts.clock = FULL.clock,
+                "tp" | "te" => parts.time = FULL.time,
                 _ => parts.value = FULL.value,
             }
         }
@@ -197,11 +224,19 @@ mod tests {
         }
     }
 
-    /// Rows 3 and 30 alone have no refusal 5.
+    /// Rows 3, 30 and 31 alone have no refusal 5.
     #[test]
     fn conditions_stand_where_a_row_has_refusal_5() {
         for row in &ROWS {
-            assert_eq!(row.conditions.is_none(), [3, 30].contains(&row.number), "{}", row.name);
+            assert_eq!(row.conditions.is_none(), [3, 30, 31].contains(&row.number), "{}", row.name);
         }
+    }
+
+    #[test]
+    fn inputs_that_bring_the_clock_name_it_first() {
+        for row in &ROWS {
+            assert_eq!(brings_clock(row.number), row.arguments.first() == Some(&Clock), "{}", row.name);
+        }
+        assert!(!brings_clock(0) && !brings_clock(35) && !brings_clock(256 + 31));
     }
 }

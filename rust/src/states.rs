@@ -155,6 +155,18 @@ states! {
 }
 
 states! {
+    /// A carrier's prediction of ready to unload, model 8.
+    PredictionState {
+        Disabled = 1, "PREDICTION DISABLED";
+        WaitingForCarrier = 2, "WAITING FOR CARRIER";
+        WaitingForPrediction = 3, "WAITING FOR PREDICTION";
+        Predicted = 4, "PREDICTED";
+        Aborted = 5, "PREDICTION ABORTED";
+        Completed = 6, "PREDICTION COMPLETED";
+    }
+}
+
+states! {
     /// A port's movement, which no report shows.
     Movement {
         None = 0, "idle";
@@ -217,10 +229,10 @@ states! {
     }
 }
 
-/// A state of one of the seven models, as a report has it.
+/// A state of one of the eight models, as a report has it.
 #[derive(Clone, Copy, Debug, PartialEq, Eq, Hash)]
 pub enum State {
-    /// Models 5 to 7: the carrier has no record.
+    /// Models 5 to 8: the carrier has no record.
     NoRecord,
     /// Model 1.
     Transfer(Transfer),
@@ -236,6 +248,8 @@ pub enum State {
     Slot(SlotStatus),
     /// Model 7.
     Accessing(Accessing),
+    /// Model 8.
+    Prediction(PredictionState),
 }
 
 impl State {
@@ -258,6 +272,7 @@ impl State {
             Model::Id => IdStatus::from_number(number).map(State::Id),
             Model::Slot => SlotStatus::from_number(number).map(State::Slot),
             Model::Accessing => Accessing::from_number(number).map(State::Accessing),
+            Model::Prediction => PredictionState::from_number(number).map(State::Prediction),
         }
     }
 
@@ -272,6 +287,7 @@ impl State {
             State::Id(state) => state.number(),
             State::Slot(state) => state.number(),
             State::Accessing(state) => state.number(),
+            State::Prediction(state) => state.number(),
         }
     }
 
@@ -286,6 +302,7 @@ impl State {
             State::Id(state) => state.word(),
             State::Slot(state) => state.word(),
             State::Accessing(state) => state.word(),
+            State::Prediction(state) => state.word(),
         }
     }
 }
@@ -323,6 +340,7 @@ mod tests {
         both_ways!(IdStatus, (1..=4));
         both_ways!(SlotStatus, (1..=4));
         both_ways!(Accessing, (1..=4));
+        both_ways!(PredictionState, (1..=6));
         both_ways!(Movement, (0..=2));
         both_ways!(Tag, (0..=2));
         both_ways!(Place, (0..=2));

@@ -2,11 +2,13 @@
 use crate::input::{Input, Parts};
 use crate::machine;
 use crate::name::{Name, NAME_BYTES};
+use crate::prediction::{PREDICTIONS_START, PREDICTION_BYTES};
 use crate::raw::{CARRIER_BYTES, REPORTS_BYTES, TOOL_01_BYTES, TOOL_BYTES};
 use crate::refusal::{refused, Refusal};
 use crate::reply::Exchanged;
 use crate::report::Reports;
-use crate::request::QUEUE_BYTES;
+use crate::request::QUEUE_START;
+use crate::states::PredictionState;
 use crate::waiting::{waiting, Waiting};
 use core::fmt;
 
@@ -23,9 +25,9 @@ pub const SECS_DEPTH: usize = 6;
 
 pub(crate) const HEAD_BYTES: usize = 3;
 pub(crate) const PORT_BYTES: usize = 22;
-pub(crate) const SPARE_BYTES: usize = 702;
+pub(crate) const SPARE_BYTES: usize = 294;
 const CARRIERS_START: usize = HEAD_BYTES + PORTS * PORT_BYTES;
-const MAPS_START: usize = TOOL_BYTES - SPARE_BYTES - QUEUE_BYTES - RECORDS * SLOTS;
+const MAPS_START: usize = QUEUE_START - RECORDS * SLOTS;
 
 /// A tool: its ports, its buffer and the carriers that it knows of.
 ///
@@ -56,6 +58,7 @@ pub struct Tool {
 impl Tool {
     /// A tool of 1 to 4 ports and 0 to 16 buffer places; anything else is refused. No places is a fixed buffer
     /// tool, where pods open at the port; with places it is an internal buffer tool with one inner opener.
+    /// Nothing is predicted: [`setup_with_times`](Tool::setup_with_times) is for a tool that does.
     ///
     /// ```
     /// use hawsermole::{Refusal, Tool};
@@ -65,8 +68,25 @@ impl Tool {
     /// assert_eq!(Tool::setup(1, 17), Err(Refusal::OutOfRange));
     /// ```
     pub fn setup(ports: u32, places: u32) -> Result<Tool, Refusal> {
+        Tool::setup_with_times(ports, places, 0, 0)
+    }
+
+    /// The same with the setting time and the timeout of [predictions](Tool::predictions), 0 to
+    /// [`SECONDS_MOST`](crate::SECONDS_MOST) seconds each: a carrier is PREDICTED so long before the predicted time,
+    /// and its prediction is ABORTED so long after it; 0 is never.
+    ///
+    /// ```
+    /// use hawsermole::{Refusal, Tool, SECONDS_MOST};
+    ///
+    /// let tool = Tool::setup_with_times(2, 0, 60, 120).unwrap();
+    /// assert_eq!((tool.clock(), tool.setting(), tool.timeout()), (0, 60, 120));
+    /// assert!(Tool::setup_with_times(2, 0, SECONDS_MOST, SECONDS_MOST).is_ok());
+    /// assert_eq!(Tool::setup_with_times(2, 0, SECONDS_MOST + 1, 0), Err(Refusal::OutOfRange));
+    /// assert_eq!(Tool::setup_with_times(2, 0, 0, SECONDS_MOST + 1), Err(Refusal::OutOfRange));
+    /// ```
+    pub fn setup_with_times(ports: u32, places: u32, setting: u32, timeout: u32) -> Result<Tool, Refusal> {
         let mut tool = Tool::none();
-        refused(machine::setup(&mut tool.bytes, ports, places))?;
+        refused(machine::setup(&mut tool.bytes, ports, places, setting, timeout))?;
         Ok(tool)
     }
 
@@ -94,8 +114,17 @@ impl Tool {
         self.bytes.first_chunk_mut().expect("a tool begins with document 01's")
     }
 
+    /// Predictions as new records have them, beside the carriers that document 01's part holds.
+    pub(crate) fn wait_for_carriers(&mut self) {
+        let predicting = if self.places() == 0 { self.carriers().len() } else { 0 };
+        for prediction in self.bytes[PREDICTIONS_START..].chunks_mut(PREDICTION_BYTES).take(predicting) {
+            prediction[0] = PredictionState::WaitingForCarrier.number();
+        }
+    }
+
     /// The tool's bytes: ports, places, records; 4 ports of 22 bytes; 36 carriers of 50 bytes; their 36 expected
-    /// maps of 25 bytes; the number of requests queued, and 16 of them of 18 bytes; 702 bytes that are zero.
+    /// maps of 25 bytes; the number of requests queued, and 16 of them of 18 bytes; clock, setting time and timeout of 4
+    /// bytes each, the low one first; the carriers' 36 predictions of 11 bytes; 294 bytes that are zero.
     pub const fn as_bytes(&self) -> &[u8; TOOL_BYTES] {
         &self.bytes
     }
@@ -111,13 +140,14 @@ impl Tool {
     /// use hawsermole::{Parts, Refusal, Tool};
     ///
     /// let mut tool = Tool::setup(1, 0).unwrap();
-    /// let load = Parts { number: 13, port: 1, value: 77, name: b"ignored", codes: b"ignored" };
+    /// let ignored = Parts { value: 77, name: b"ignored", codes: b"ignored", clock: 77, time: 77, ..Parts::default() };
+    /// let load = Parts { number: 13, port: 1, ..ignored };
     /// assert_eq!(tool.step_parts(&load).unwrap().len(), 1);
-    /// assert_eq!(tool.step_parts(&Parts { number: 31, ..load }), Err(Refusal::OutOfRange));
+    /// assert_eq!(tool.step_parts(&Parts { number: 35, ..load }), Err(Refusal::OutOfRange));
     /// assert_eq!(tool.step_parts(&Parts { port: 257, ..load }), Err(Refusal::OutOfRange));
     ///
     /// // Bind names the codes: none, or an expected map.
-    /// let bind = Parts { number: 1, port: 1, value: 77, name: b"AB", codes: b"no map" };
+    /// let bind = Parts { number: 1, port: 1, name: b"AB", codes: b"no map", ..ignored };
     /// assert_eq!(tool.step_parts(&bind), Err(Refusal::OutOfRange));
     /// ```
     pub fn step_parts(&mut self, parts: &Parts<'_>) -> Result<Reports, Refusal> {
@@ -136,7 +166,7 @@ impl Tool {
     /// // A list of five: data id U1 7, action "Bind", carrier "AB", port U1 1, no attributes.
     /// let message = b"\x01\x05\xA5\x01\x07\x41\x04Bind\x41\x02AB\xA5\x01\x01\x01\x00";
     /// let bound = tool.secs_step(message);
-    /// assert_eq!((bound.answer.unwrap().len(), bound.items), (5, 6));
+    /// assert_eq!((bound.answer.unwrap().len(), bound.items), (6, 6));
     ///
     /// // Without its last two bytes the fifth element is missing, after five items.
     /// let cut = tool.secs_step(&message[..18]);
@@ -170,7 +200,7 @@ impl Tool {
     ///
     /// // Accepted: a list of U1 0 and an empty list.
     /// let bound = tool.secs_exchange(message, &mut room);
-    /// assert_eq!((bound.answer.unwrap().len(), bound.reply), (5, &b"\x01\x02\xA5\x01\x00\x01\x00"[..]));
+    /// assert_eq!((bound.answer.unwrap().len(), bound.reply), (6, &b"\x01\x02\xA5\x01\x00\x01\x00"[..]));
     ///
     /// // Refused: U1 5, and one pair of U2 3 and a text.
     /// let again = tool.secs_exchange(message, &mut room);
@@ -286,6 +316,10 @@ impl fmt::Debug for Tool {
             .field("carriers", &printed(|f| f.debug_list().entries(self.carriers()).finish()))
             .field("expected_maps", &printed(|f| f.debug_map().entries(self.expected_maps()).finish()))
             .field("requests", &printed(|f| f.debug_list().entries(self.requests()).finish()))
+            .field("clock", &self.clock())
+            .field("setting", &self.setting())
+            .field("timeout", &self.timeout())
+            .field("predictions", &printed(|f| f.debug_list().entries(self.predictions()).finish()))
             .finish()
     }
 }
@@ -509,7 +543,8 @@ mod tests {
         let text = format!("{tool:?}");
         assert!(text.starts_with("Tool { places: 2, ports: [Port { number: 1, transfer: 1,"), "{text}");
         assert!(text.contains("carriers: [Carrier { name: Name(\"AB\")"), "{text}");
-        assert!(text.ends_with("expected_maps: {}, requests: [] }"), "{text}");
+        let end = "expected_maps: {}, requests: [], clock: 0, setting: 0, timeout: 0, predictions: [] }";
+        assert!(text.ends_with(end), "{text}");
         let map = ExpectedMap::new(&[3; SLOTS]).unwrap();
         tool.step(&Input::BindWithMap { port: 1, name: b"C", map }).unwrap();
         assert!(format!("{tool:?}").contains("expected_maps: {Name(\"C\"): [3, 3, 3,"), "{tool:?}");

@@ -17,6 +17,7 @@ pub const fn model(model: Model) -> &'static str {
         Model::Id => "ID status",
         Model::Slot => "slot map status",
         Model::Accessing => "accessing status",
+        Model::Prediction => "ready to unload prediction status",
     }
 }
 
@@ -53,6 +54,11 @@ pub fn slot(number: u8) -> &'static str {
 /// A carrier's accessing status, model 7.
 pub fn accessing(number: u8) -> &'static str {
     State::of(Model::Accessing, number).map_or(OUT, State::word)
+}
+
+/// A carrier's prediction of ready to unload, model 8.
+pub fn prediction(number: u8) -> &'static str {
+    State::of(Model::Prediction, number).map_or(OUT, State::word)
 }
 
 /// A port's movement.
@@ -94,7 +100,7 @@ mod tests {
     /// Each table with the last number that has a word.
     #[test]
     fn every_number_of_the_documents_has_a_word() {
-        let tables: [(Table, u8); 12] = [
+        let tables: [(Table, u8); 13] = [
             (transfer, 3),
             (access, 1),
             (reservation, 1),
@@ -102,6 +108,7 @@ mod tests {
             (id, 4),
             (slot, 4),
             (accessing, 4),
+            (prediction, 6),
             (movement, 2),
             (tag, 2),
             (place, 2),
@@ -122,5 +129,6 @@ mod tests {
         assert_eq!((id(1), id(2)), ("ID NOT READ", "ID WAITING FOR HOST"));
         assert_eq!((slot(3), slot(4)), ("SLOT MAP VERIFICATION OK", "SLOT MAP VERIFICATION FAILED"));
         assert_eq!((accessing(2), accessing(4)), ("IN ACCESS", "CARRIER STOPPED"));
+        assert_eq!((prediction(2), prediction(6)), ("WAITING FOR CARRIER", "PREDICTION COMPLETED"));
     }
 }

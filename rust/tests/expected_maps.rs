@@ -65,7 +65,7 @@ fn codes_that_are_no_map_are_refused() {
     let before = tool.clone();
     for codes in [&[3; 24][..], &[3; 26], &[0; 25], &[2; 25], &[255; 25]] {
         for number in [1, 3] {
-            let parts = Parts { number, port: 1, value: 0, name: b"AB", codes };
+            let parts = Parts { number, port: 1, name: b"AB", codes, ..Parts::default() };
             assert_eq!(tool.step_parts(&parts), Err(Refusal::OutOfRange));
         }
     }

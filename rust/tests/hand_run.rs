@@ -1,4 +1,5 @@
-//! Document 01's run to check by hand, through the typed interface: answers and reports as its table has them.
+//! Document 01's run to check by hand, through the typed interface: answers and reports as its table has them, with model
+//! 8 of request P7 after them, since the tool has no buffer. Its setting time is 0, so that nothing is predicted.
 use hawsermole::{Input, Model, Refusal, Tool};
 
 const MAP: &[u8] = &[3; 25];
@@ -10,12 +11,17 @@ fn accepted(reports: &str) -> Result<String, Refusal> {
 #[test]
 fn the_twelve_rows() {
     let table = [
-        (Input::Bind { port: 1, name: b"AB" }, accepted("3 1 0>1; 4 1 0>1; 5 AB 0>1; 6 AB 0>1; 7 AB 0>1")),
+        (
+            Input::Bind { port: 1, name: b"AB" },
+            accepted("3 1 0>1; 4 1 0>1; 5 AB 0>1; 6 AB 0>1; 7 AB 0>1; 8 AB 0>2"),
+        ),
         (Input::LoadStart { port: 1 }, accepted("1 1 1>3; 3 1 1>0")),
         (Input::LoadDone { port: 1 }, accepted("none")),
         (
             Input::IdRead { port: 1, name: b"AC" },
-            accepted("4 1 1>1; 5 AB 1>0; 5 AC 0>2; 6 AB 1>0; 6 AC 0>1; 7 AB 1>0; 7 AC 0>1"),
+            accepted(
+                "4 1 1>1; 5 AB 1>0; 5 AC 0>2; 6 AB 1>0; 6 AC 0>1; 7 AB 1>0; 7 AC 0>1; 8 AB 2>0; 8 AC 0>2",
+            ),
         ),
         (Input::Open { name: b"AC" }, Err(Refusal::NotVerified)),
         (Input::ProceedWithCarrier { name: b"AC", port: 0 }, accepted("5 AC 2>3")),
@@ -23,7 +29,7 @@ fn the_twelve_rows() {
         (Input::SlotMap { name: b"AC", codes: MAP }, accepted("6 AC 1>2")),
         (Input::AccessStart { name: b"AC" }, Err(Refusal::NotVerified)),
         (Input::ProceedWithCarrier { name: b"AC", port: 0 }, accepted("6 AC 2>3")),
-        (Input::AccessStart { name: b"AC" }, accepted("7 AC 1>2")),
+        (Input::AccessStart { name: b"AC" }, accepted("7 AC 1>2; 8 AC 2>1")),
         (Input::CancelCarrier { name: b"AC", port: 0 }, Err(Refusal::Conditions)),
     ];
     let mut tool = Tool::setup(2, 0).unwrap();
@@ -78,7 +84,9 @@ fn models_come_in_order() {
     let mut tool = Tool::setup(1, 0).unwrap();
     let reports = tool.step(&Input::Bind { port: 1, name: b"AB" }).unwrap();
     let models: Vec<Model> = reports.clone().map(|report| report.model).collect();
-    assert_eq!(models, [Model::Reservation, Model::Tie, Model::Id, Model::Slot, Model::Accessing]);
-    assert_eq!(reports.as_bytes()[0], 5);
-    assert!(reports.as_bytes()[1 + 5 * 20..].iter().all(|&byte| byte == 0));
+    let booked =
+        [Model::Reservation, Model::Tie, Model::Id, Model::Slot, Model::Accessing, Model::Prediction];
+    assert_eq!(models, booked);
+    assert_eq!(reports.as_bytes()[0], 6);
+    assert!(reports.as_bytes()[1 + 6 * 20..].iter().all(|&byte| byte == 0));
 }

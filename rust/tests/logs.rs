@@ -1,5 +1,5 @@
 //! Logs judged: agreeing ones, cut at every place, changed at every place, and of any bytes.
-use hawsermole::{judge, Input, LogRefusal, Refusal, Reports, Subject, Tool, Verdict};
+use hawsermole::{judge, Input, LogRefusal, Model, Refusal, Report, Reports, Subject, Tool, Verdict};
 use std::ops::Range;
 
 const HEAD: usize = 7;
@@ -24,7 +24,7 @@ impl Log {
         self.bytes.extend(numbers.map(|number| u8::try_from(number).unwrap()));
         self.bytes.extend([parts.name, parts.codes].concat());
         let middle = self.bytes.len();
-        let reports = given.clone().unwrap_or_default();
+        let reports: Vec<Report> = given.clone().unwrap_or_default().filter(of_document_01).collect();
         self.bytes.push(given.as_ref().err().map_or(0, |refusal| refusal.number()));
         self.bytes.push(reports.len() as u8);
         for report in reports {
@@ -41,6 +41,11 @@ impl Log {
         self.inputs.push(start..middle);
         self.answers.push(middle..self.bytes.len());
     }
+}
+
+/// Document 01 has models 1 to 7.
+fn of_document_01(report: &Report) -> bool {
+    report.model != Model::Prediction
 }
 
 /// A run without expected maps, padded names and CarrierOut: there the whole tool gives what document 01 does.
@@ -213,6 +218,21 @@ fn no_queue_reaches_a_log() {
     log.add(&Input::CarrierOut { name: b"A", port: 1 }, &Ok(Reports::default()));
     let Verdict::Disagrees { entry, at: begins, given } = judged(&log.bytes) else { panic!() };
     assert_eq!((entry, begins, given.unwrap().to_string()), (entries + 4, at, "1 1 1>2; 4 1 0>1".into()));
+}
+
+/// No model 8, and the inputs that bring the clock are none. A report of model 8 has a port in a log.
+#[test]
+fn no_prediction_reaches_a_log() {
+    let mut log = log(1, 0, &[Input::CarrierNotification { name: b"A" }]);
+    let numbers = [31, 32, 33, 34];
+    for number in numbers {
+        log.bytes.extend([number, 0, 0, 1, b'A', Refusal::OutOfRange.number(), 0]);
+    }
+    assert_eq!(judged(&log.bytes), Verdict::Agrees { entries: 5 });
+    let at = log.bytes.len();
+    log.bytes.extend(*b"\x04\0\0\x01A\0\x01\x08\x01\x02\0");
+    let Verdict::Disagrees { entry: 5, at: begins, given } = judged(&log.bytes) else { panic!() };
+    assert_eq!((begins, given.unwrap().to_string()), (at, "5 A 1>0; 6 A 1>0; 7 A 1>0".into()));
 }
 
 #[test]

@@ -1,7 +1,8 @@
 //! Names padded with blanks (request P4), through the typed interface.
 use hawsermole::{ExpectedMap, Input, Name, Parts, Refusal, Tool, ROWS};
 
-/// A run that reaches rows 1 to 8, 16, 19 to 23 and 29, each accepted; `name` is given with every one of them.
+/// A run that reaches rows 1 to 8, 16, 19 to 23 and 29 in a tool with a buffer, each accepted; `name` is given with
+/// every one of them.
 fn run(name: &[u8]) -> Vec<Input<'_>> {
     let codes = &[3; 25];
     let map = ExpectedMap::new(codes).unwrap();
@@ -34,13 +35,38 @@ fn run(name: &[u8]) -> Vec<Input<'_>> {
     ]
 }
 
-/// Each state of the run, with the input that comes next.
+/// A run of a tool without a buffer, that reaches rows 32 to 34 in the same way.
+fn predicted_run(name: &[u8]) -> Vec<Input<'_>> {
+    let codes = &[3; 25];
+    vec![
+        Input::LoadStart { port: 1 },
+        Input::LoadDone { port: 1 },
+        Input::IdRead { port: 1, name },
+        Input::ProceedWithCarrier { name, port: 1 },
+        Input::Open { name },
+        Input::SlotMap { name, codes },
+        Input::ProceedWithCarrier { name, port: 0 },
+        Input::AccessStart { name },
+        Input::PredictedTime { clock: 1, name, tp: 99 },
+        Input::Estimate { clock: 2, name, te: 99 },
+        Input::NoPrediction { clock: 3, name },
+    ]
+}
+
+/// Both runs, each with the tool that it begins with.
+fn runs(name: &[u8]) -> [(Tool, Vec<Input<'_>>); 2] {
+    let predicting = Tool::setup_with_times(1, 0, 60, 120).unwrap();
+    [(Tool::setup(1, 1).unwrap(), run(name)), (predicting, predicted_run(name))]
+}
+
+/// Each state of the runs, with the input that comes next.
 fn states(name: &[u8]) -> Vec<(Tool, Input<'_>)> {
-    let mut tool = Tool::setup(1, 1).unwrap();
-    let states = run(name).into_iter().map(|input| {
-        let before = tool.clone();
-        tool.step(&input).unwrap();
-        (before, input)
+    let states = runs(name).into_iter().flat_map(|(mut tool, inputs)| {
+        inputs.into_iter().map(move |input| {
+            let before = tool.clone();
+            tool.step(&input).unwrap();
+            (before, input)
+        })
     });
     states.collect()
 }
@@ -50,12 +76,16 @@ fn a_padded_name_and_the_plain_one_are_the_same_input() {
     for length in [7, 16, 31, 32] {
         let mut text = b"FOUP-7".to_vec();
         text.resize(length, b' ');
-        let (mut plain, mut padded) = (Tool::setup(1, 1).unwrap(), Tool::setup(1, 1).unwrap());
-        for (one, other) in run(b"FOUP-7").iter().zip(run(&text)) {
-            assert_eq!(plain.step(one).unwrap(), padded.step(&other).unwrap(), "{other}");
-            assert_eq!(plain, padded, "{other}");
+        for ((mut plain, one), (mut padded, other)) in runs(b"FOUP-7").into_iter().zip(runs(&text)) {
+            for (one, other) in one.iter().zip(&other) {
+                assert_eq!(plain.step(one).unwrap(), padded.step(other).unwrap(), "{other}");
+                assert_eq!(plain, padded, "{other}");
+            }
+            let expected = [3; 25];
+            let expected = (padded.places() > 0).then_some(&expected);
+            assert_eq!(padded.carriers().last().unwrap().name.as_bytes(), b"FOUP-7");
+            assert_eq!(padded.expected_map(b"FOUP-7"), expected);
         }
-        assert_eq!(padded.expected_map(b"FOUP-7"), Some(&[3; 25]));
     }
 }
 

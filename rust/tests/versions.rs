@@ -23,7 +23,7 @@ fn the_archive_and_the_crate() {
 #[test]
 fn the_header() {
     let header = read("include/hawsermole.h");
-    assert!(header.contains(&format!("\n#define HM_VERSION {:#08x}\n", raw::VERSION)));
+    assert!(header.contains(&format!("\n#define HM_VERSION 0x{:06X}\n", raw::VERSION)));
     assert!(header.contains(&format!("0x00MMmmpp: {}.", dotted(raw::VERSION))));
 }
 

@@ -18,11 +18,11 @@ fn lines() -> Vec<String> {
     let mut lines: Vec<String> =
         (0..=27).map(|number| format!("answer {number}: {}", answer(number))).collect();
     lines.extend((0..=30).map(|number| format!("verdict {number}: {}", verdict(number))));
-    lines.extend((0..=31).map(|number| format!("input {number}: {}", input(number))));
-    lines.extend((0..=8).map(|number| format!("model {number}: {}", model(number))));
+    lines.extend((0..=35).map(|number| format!("input {number}: {}", input(number))));
+    lines.extend((0..=9).map(|number| format!("model {number}: {}", model(number))));
     for model in Model::ALL {
         lines
-            .extend((0..=5).map(|state| format!("state {} {state}: {}", model.number(), model.state(state))));
+            .extend((0..=7).map(|state| format!("state {} {state}: {}", model.number(), model.state(state))));
     }
     lines.extend((0..=3).map(|number| format!("movement {number}: {}", words::movement(number))));
     lines.extend((0..=3).map(|number| format!("tag {number}: {}", words::tag(number))));
