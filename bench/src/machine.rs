@@ -1,6 +1,6 @@
 //! A step of either program, as one kind of function.
 
-use hawsermole::raw::{self, TOOL_BYTES};
+use hawsermole::raw;
 use independent::requests::predict::is_timed;
 use independent::requests::secs::{secs_step, SecsAnswer};
 use independent::requests::{self, Tool};
@@ -65,22 +65,6 @@ pub fn caller_of_hm_step(
     std::hint::black_box(answer)
 }
 
-/// The bytes of the reports: a count and ten entries.
-const REPORTS_BYTES: usize = 201;
-
-// `include/hawsermole.h` says what it gives.
-unsafe extern "C" {
-    fn hm_time_step(
-        tool: &mut [u8; TOOL_BYTES],
-        reports: &mut [u8; REPORTS_BYTES],
-        number: u32,
-        clock: u32,
-        name: *const u8,
-        name_length: u64,
-        time: u32,
-    ) -> u32;
-}
-
 /// An input that brings the clock, known in the same way.
 #[no_mangle]
 #[inline(never)]
@@ -93,9 +77,8 @@ pub fn caller_of_hm_time_step(
     reports: &mut Reports,
 ) -> u32 {
     let (tool, reports) = (tool.bytes_mut().try_into().unwrap(), reports.bytes_mut().try_into().unwrap());
-    // SAFETY: `main` has seen that the sizes agree. The name is lent with its length.
-    let answer =
-        unsafe { hm_time_step(tool, reports, number, clock, name.as_ptr(), name.len() as u64, time) };
+    // SAFETY: `main` has seen that the sizes agree.
+    let answer = unsafe { raw::time_step(tool, reports, number, clock, name, time) };
     std::hint::black_box(answer)
 }
 

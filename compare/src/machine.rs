@@ -6,8 +6,6 @@ use independent::requests::predict::is_timed;
 use independent::requests::{self, secs, Tool};
 use independent::{Plain, Reports};
 
-use crate::library;
-
 /// The numbers of a set-up.
 #[derive(Clone, Copy, Debug, Default, PartialEq, Eq)]
 pub struct SetUp {
@@ -63,13 +61,13 @@ impl Proved {
 impl Machine for Proved {
     fn setup(&self, of: SetUp, tool: &mut Tool) -> u32 {
         // SAFETY: the sizes agree.
-        unsafe { library::setup(of, tool) }
+        unsafe { raw::hm_setup(lent(tool), of.ports, of.places, of.setting, of.timeout) }
     }
 
     fn step(&self, tool: &mut Tool, i: &Input, reports: &mut Reports) -> u32 {
         if is_timed(i.number) {
             // SAFETY: the sizes agree.
-            return unsafe { library::time_step(tool, i, reports) };
+            return unsafe { raw::time_step(lent(tool), lent(reports), i.number, i.clock, &i.name, i.time) };
         }
         // SAFETY: the sizes agree.
         unsafe { raw::step(lent(tool), lent(reports), i.number, i.port, i.value, &i.name, &i.codes) }
