@@ -163,6 +163,19 @@ causes! {
     NoneStarted Conditions "no CarrierOut is started to the port"
         "OutStart comes first. If a pod has come out, tool and floor differ: stop the port, call somebody"
 
+    PredictsNothing Conditions "the tool has a buffer, and predicts nothing"
+        "send none: predictions are for tools without a buffer"
+    NotAccessedYet Conditions "the carrier's prediction waits for the carrier"
+        "AccessStart comes first"
+    PredictionDisabled Conditions "the carrier's prediction is disabled"
+        "nothing: the set-up has a setting time of 0, so that nothing is predicted"
+    PredictionPast Conditions "the carrier's prediction doesn't wait for a predicted time any more"
+        "nothing: a visit has one prediction; Estimate tells of a new time where there is a predicted one"
+    PredictedAlready Conditions "the carrier has a predicted time already"
+        "leave it: the host has that time and it stays; Estimate tells of a new one"
+    NoPredictedTime Conditions "the carrier has no predicted time"
+        "PredictedTime comes first"
+
     Full ExpectedFull "16 carriers are expected"
         "take announcements back, or wait until pods arrive"
 
@@ -197,6 +210,9 @@ causes! {
 
     QueuedAlready QueuedAlready "the carrier's CarrierOut is queued already"
         "nothing, if the port is right; to another port after CancelCarrierOut, which drops what isn't started"
+
+    ClockEarlier ClockEarlier "the clock is earlier than the last accepted"
+        "send the time as it is; if your clock was set back, go on from the last one accepted until it is past that"
 }
 
 #[cfg(test)]

@@ -194,7 +194,7 @@ mod tests {
     fn a_tool_is_saved_and_loaded() {
         let file = file("saved");
         let (save, load) = (format!("save {}", file.display()), format!("load {}", file.display()));
-        let mut one = dialogue(&["setup 2 1", "Bind 1 AB"]);
+        let mut one = dialogue(&["setup 2 1 60 120", "Clock 9", "Bind 1 AB"]);
         assert_eq!(printed(&mut one, &[&save]), "save 3782\n");
         assert_eq!(fs::read(&file).unwrap(), one.player.tool().as_bytes());
         let mut other = dialogue(&["setup 1 0"]);
@@ -202,7 +202,8 @@ mod tests {
         assert_eq!(other.player.tool(), one.player.tool());
         assert_eq!(printed(&mut other, &["undo"]), format!("undo {}\n", shown(load.as_bytes())));
         let mut explained = Dialogue::new(true, false);
-        let told = "load sound\n  loaded: internal buffer tool, 2 ports, 1 buffer place\n";
+        let told = "load sound\n  loaded: internal buffer tool, 2 ports, 1 buffer place, \
+                    setting time 60 s, timeout 120 s\n";
         assert_eq!(printed(&mut explained, &[&load]), told);
         fs::remove_file(file).unwrap();
     }
@@ -241,11 +242,12 @@ mod tests {
         let mut dialogue = dialogue(&["setup 2 0", "dump", "", "# blank lines and comments are passed over"]);
         assert_eq!(unmet(&mut dialogue, "expect port  1 1 0 0 - 0 0 0"), None);
         assert_eq!(unmet(&mut dialogue, "expect port 2 .."), None);
+        assert_eq!(unmet(&mut dialogue, "expect time 0 0 0"), None);
         assert_eq!(unmet(&mut dialogue, "expect end .."), None);
         let nothing = "expected 'end ..', printed nothing more";
         assert_eq!(unmet(&mut dialogue, "expect end .."), Some(nothing.into()));
         assert_eq!(unmet(&mut dialogue, "expect .."), Some("expected '..', printed nothing more".into()));
-        assert_eq!((dialogue.expected, dialogue.unmet), (5, 2));
+        assert_eq!((dialogue.expected, dialogue.unmet), (6, 2));
     }
 
     #[test]

@@ -1,6 +1,6 @@
 //! An entry of a log: its layout, read and written.
 use crate::script::Sent;
-use hawsermole::{Parts, Report, Subject, SLOTS};
+use hawsermole::{Model, Parts, Report, Subject, SLOTS};
 
 /// How many bytes stand before the first entry.
 pub const HEAD_BYTES: usize = 7;
@@ -19,6 +19,11 @@ pub struct Told {
     pub about: About,
     pub old: u8,
     pub new: u8,
+}
+
+/// Document 01's models are 1 to 7: no log has request P7's.
+pub fn of_document_01(report: &Report) -> bool {
+    report.model != Model::Prediction
 }
 
 /// What a report of a log speaks of: a name in models 5 to 7, else a port.
@@ -57,7 +62,7 @@ pub fn read(bytes: &[u8]) -> Result<Entry<'_>, String> {
     let answer = left.byte("answer")?;
     let count = left.byte("report count")?;
     let reports = (1..=count).map(|place| report(&mut left, place)).collect::<Result<_, _>>()?;
-    Ok(Entry { input: Parts { number, port, value, name, codes }, answer, reports })
+    Ok(Entry { input: Parts { number, port, value, name, codes, ..Parts::default() }, answer, reports })
 }
 
 fn report(left: &mut Left, place: u8) -> Result<Told, String> {
@@ -100,6 +105,9 @@ pub fn misfit(sent: &Sent) -> Option<String> {
     let numbers = [("input number", sent.number), ("port", sent.port), ("value", sent.value)];
     if let Some((what, number)) = numbers.into_iter().find(|(_, number)| *number > 255) {
         return Some(format!("{what} {number}: a log has one byte for it"));
+    }
+    if (sent.clock, sent.time) != (0, 0) {
+        return Some("clock or time: a log has none, since document 01 has no predictions".into());
     }
     let (name, codes) = (sent.name.len(), sent.codes.len());
     if name > 255 {
@@ -146,7 +154,7 @@ mod tests {
         let given = Tool::setup(1, 0).unwrap().step(&Input::Bind { port: 1, name: b"AB" });
         let sent = Sent { number: 1, port: 1, name: b"AB".into(), ..Sent::default() };
         let mut log = Vec::new();
-        let reports: Vec<Report> = given.clone().unwrap().collect();
+        let reports: Vec<Report> = given.clone().unwrap().filter(of_document_01).collect();
         write(&mut log, &sent, 0, &reports);
         (log, given)
     }
@@ -160,7 +168,8 @@ mod tests {
         let entry = read(&log).unwrap();
         assert_eq!(entry.input, Input::Bind { port: 1, name: b"AB" }.parts());
         assert_eq!(entry.answer, 0);
-        assert_eq!(entry.reports, given.unwrap().map(Told::from).collect::<Vec<_>>());
+        let told = given.unwrap().filter(of_document_01).map(Told::from);
+        assert_eq!(entry.reports, told.collect::<Vec<_>>());
     }
 
     #[test]
@@ -181,9 +190,9 @@ mod tests {
         let sent = |number, port, name: &[u8], codes: &[u8]| Sent {
             number,
             port,
-            value: 0,
             name: name.into(),
             codes: codes.into(),
+            ..Sent::default()
         };
         assert_eq!(misfit(&sent(27, 255, &[b'A'; 255], b"")), None);
         assert_eq!(misfit(&sent(20, 0, b"A", &[3; 25])), None);
@@ -192,6 +201,10 @@ mod tests {
         let long = misfit(&sent(19, 0, &[b'A'; 256], b"")).unwrap();
         assert_eq!(long, "a name of 256 bytes: a log holds at most 255");
         assert_eq!(misfit(&sent(20, 0, b"A", &[3; 24])).unwrap(), "24 codes: in a log SlotMap has 25");
+        for (clock, time) in [(1, 0), (0, 1)] {
+            let timed = misfit(&Sent { clock, time, ..sent(31, 0, b"", b"") }).unwrap();
+            assert!(timed.starts_with("clock or time: a log has none"), "{timed}");
+        }
         assert!(misfit(&sent(1, 1, b"A", &[3; 25]))
             .unwrap()
             .starts_with("codes: a log has them with SlotMap alone"));

@@ -1,10 +1,12 @@
 //! What an input, its answer and its reports mean, in E87's words: indented lines below the answer.
 use crate::grounds;
+use crate::predictions;
 use crate::print::{self, Answer};
 use crate::queue;
 use crate::values::cut;
 use hawsermole::{
-    words, Argument, Model, Name, NameError, Parts, Refusal, Report, Row, Subject, Tool, Waiting, SLOTS,
+    words, Argument, Model, Name, NameError, Parts, Refusal, Report, Row, Subject, Tool, Waiting,
+    SECONDS_MOST, SLOTS,
 };
 
 /// A set-up's answer.
@@ -12,18 +14,26 @@ pub fn setup(tool: &Tool, refusal: Option<Refusal>) -> String {
     match refusal {
         Some(refusal) => {
             let number = refusal.number();
-            format!("  refused, {number}: ports are 1 to 4 and buffer places 0 to 16; there is no tool\n")
+            format!(
+                "  refused, {number}: ports are 1 to 4, buffer places 0 to 16, and setting time and timeout \
+                 0 to {SECONDS_MOST} seconds; there is no tool\n"
+            )
         }
         None => format!("  accepted: {}\n", tool_kind(tool)),
     }
 }
 
-/// `fixed buffer tool, 2 ports`, `internal buffer tool, 1 port, 4 buffer places`.
+/// `fixed buffer tool, 2 ports, setting time 60 s, timeout 120 s`, `internal buffer tool, 1 port, 4 buffer places`.
+/// Times that are both 0 aren't told.
 pub fn tool_kind(tool: &Tool) -> String {
     let ports = counted(tool.ports().len(), "port");
+    let times = match (tool.setting(), tool.timeout()) {
+        (0, 0) => String::new(),
+        (setting, timeout) => format!(", setting time {setting} s, timeout {timeout} s"),
+    };
     match tool.places() {
-        0 => format!("fixed buffer tool, {ports}"),
-        places => format!("internal buffer tool, {ports}, {}", counted(places.into(), "buffer place")),
+        0 => format!("fixed buffer tool, {ports}{times}"),
+        places => format!("internal buffer tool, {ports}, {}{times}", counted(places.into(), "buffer place")),
     }
 }
 
@@ -55,7 +65,7 @@ pub fn waiting(tool: &Tool, Waiting { first, read }: Waiting) -> String {
 
 /// A line for the input, one for the name that was used where another text was sent, one for the answer; for a refusal
 /// its causes with what to do about each; one for each report, for what a slot map was compared with, and for each
-/// change of the queue. The tools are those before and after.
+/// change of the queue and of the predictions' times. The tools are those before and after.
 pub fn answer(before: &Tool, after: &Tool, parts: &Parts, given: &Answer) -> String {
     let row = Row::numbered(parts.number);
     let input = parts.to_string();
@@ -76,6 +86,7 @@ pub fn answer(before: &Tool, after: &Tool, parts: &Parts, given: &Answer) -> Str
     }
     if given.is_ok() {
         lines.extend(queue::changes(before, after, parts));
+        lines.extend(predictions::changes(before, after, parts, given));
     }
     lines.into_iter().map(|line| format!("  {line}\n")).collect()
 }
@@ -141,7 +152,7 @@ fn of_report(Report { model, subject, old, new }: Report) -> String {
 #[cfg(test)]
 mod tests {
     use super::*;
-    use crate::print::tests::{stored, tool};
+    use crate::print::tests::{accessed, stored, tool};
     use hawsermole::{ExpectedMap, Input};
 
     fn explained(tool: &mut Tool, input: Input) -> String {
@@ -157,6 +168,9 @@ mod tests {
         assert_eq!(kind(2, 0), "fixed buffer tool, 2 ports");
         assert_eq!(kind(4, 1), "internal buffer tool, 4 ports, 1 buffer place");
         assert_eq!(kind(1, 16), "internal buffer tool, 1 port, 16 buffer places");
+        let timed = |setting, timeout| tool_kind(&Tool::setup_with_times(1, 0, setting, timeout).unwrap());
+        assert_eq!(timed(60, 0), "fixed buffer tool, 1 port, setting time 60 s, timeout 0 s");
+        assert_eq!(timed(0, 120), "fixed buffer tool, 1 port, setting time 0 s, timeout 120 s");
     }
 
     #[test]
@@ -164,7 +178,9 @@ mod tests {
         let tool = Tool::setup(2, 0).unwrap();
         assert_eq!(setup(&tool, None), "  accepted: fixed buffer tool, 2 ports\n");
         let refused = setup(&Tool::none(), Some(Refusal::OutOfRange));
-        assert_eq!(refused, "  refused, 1: ports are 1 to 4 and buffer places 0 to 16; there is no tool\n");
+        let ranges =
+            "ports are 1 to 4, buffer places 0 to 16, and setting time and timeout 0 to 86400 seconds";
+        assert_eq!(refused, format!("  refused, 1: {ranges}; there is no tool\n"));
     }
 
     #[test]
@@ -173,10 +189,11 @@ mod tests {
         let made = "  CarrierNotification(AB): announce a carrier\n  accepted\n\
                     \x20 carrier AB: record made, ID NOT READ\n\
                     \x20 carrier AB: record made, SLOT MAP NOT READ\n\
-                    \x20 carrier AB: record made, NOT ACCESSED\n";
+                    \x20 carrier AB: record made, NOT ACCESSED\n\
+                    \x20 carrier AB: record made, WAITING FOR CARRIER\n";
         assert_eq!(explained(&mut tool, Input::CarrierNotification { name: b"AB" }), made);
         let gone = explained(&mut tool, Input::CancelCarrierNotification { name: b"AB" });
-        assert!(gone.ends_with("  carrier AB: record gone, was NOT ACCESSED\n"), "{gone}");
+        assert!(gone.ends_with("  carrier AB: record gone, was WAITING FOR CARRIER\n"), "{gone}");
     }
 
     #[test]
@@ -247,7 +264,7 @@ mod tests {
     fn maps_that_cannot_be_expected() {
         let mut tool = tool(1, 0, &[]);
         let mut told = |codes: &[u8]| {
-            let parts = Parts { number: 1, port: 1, value: 0, name: NAME, codes };
+            let parts = Parts { number: 1, port: 1, name: NAME, codes, ..Parts::default() };
             let before = tool.clone();
             let given = tool.step_parts(&parts);
             answer(&before, &tool, &parts, &given)
@@ -263,7 +280,7 @@ mod tests {
 
     /// The lines of an input by its parts, without the first two spaces of each.
     fn lines(tool: &mut Tool, number: u32, name: &[u8], codes: &[u8]) -> Vec<String> {
-        let parts = Parts { number, port: 1, value: 0, name, codes };
+        let parts = Parts { number, port: 1, name, codes, ..Parts::default() };
         let before = tool.clone();
         let given = tool.step_parts(&parts);
         answer(&before, tool, &parts, &given).lines().map(|line| line.trim_start().into()).collect()
@@ -329,10 +346,10 @@ mod tests {
             early.starts_with(&format!("  LoadDone(1): the pod has arrived\n  {conditions}  {because}")),
             "{early}"
         );
-        let odd = lines(&mut tool, 31, b"", &[]);
-        assert_eq!(odd[0], "31: no input has this number");
+        let odd = lines(&mut tool, 35, b"", &[]);
+        assert_eq!(odd[0], "35: no input has this number");
         assert!(odd[1].starts_with("refused, 1: a port, place,"), "{odd:?}");
-        assert_eq!(odd[2], "because no input has this number: 31; inputs are 1 to 30");
+        assert_eq!(odd[2], "because no input has this number: 35; inputs are 1 to 34");
         let none = explained(&mut Tool::none(), Input::LoadDone { port: 1 });
         assert!(none.contains("\n  because there is no tool\n  next: set one up, of 1 to 4 ports"), "{none}");
     }
@@ -356,6 +373,28 @@ mod tests {
         let expected = "  CancelAllCarrierOut: take back every CarrierOut that isn't started\n  accepted\n\
                         \x20 no CarrierOut was queued that isn't started\n";
         assert_eq!(all, expected);
+    }
+
+    #[test]
+    fn predictions_that_are_given_judged_and_refused() {
+        let mut tool = accessed(60, 120);
+        let predicted = explained(&mut tool, Input::PredictedTime { clock: 1000, name: b"A", tp: 1100 });
+        let expected = "  PredictedTime(1000, A, 1100): predict when the carrier will be ready to unload\n\
+                        \x20 accepted\n\
+                        \x20 carrier A: ready to unload at 1100, 100 seconds from now; PREDICTED at 1040\n";
+        assert_eq!(predicted, expected);
+        let judged = explained(&mut tool, Input::Clock { clock: 1040 });
+        assert!(
+            judged.ends_with("  accepted\n  carrier A: WAITING FOR PREDICTION to PREDICTED\n"),
+            "{judged}"
+        );
+        let second = explained(&mut tool, Input::PredictedTime { clock: 1040, name: b"A", tp: 1100 });
+        let because = "\n  because the carrier has a predicted time already: A is PREDICTED, ready at 1100\n";
+        assert!(second.contains(because), "{second}");
+        let early = explained(&mut tool, Input::Clock { clock: 1039 });
+        let because = "  refused, 11: the clock is earlier than the last accepted\n  because the clock is earlier \
+                       than the last accepted: clock 1039, and the last accepted is 1040\n  next: send the time";
+        assert!(early.contains(because), "{early}");
     }
 
     /// A name of any length is sent; of a long one the beginning is told.

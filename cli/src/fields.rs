@@ -1,6 +1,6 @@
 //! The tool's fields, byte by byte: which is out of its range, and which byte isn't zero though nothing uses it.
 use crate::numbers::place::BUFFER;
-use hawsermole::{Carrier, Port, Tool, CARRIER_BYTES, PORTS, RECORDS, REQUESTS, SLOTS};
+use hawsermole::{Carrier, Port, Tool, CARRIER_BYTES, PORTS, RECORDS, REQUESTS, SECONDS_MOST, SLOTS};
 
 const HEAD_BYTES: usize = 3;
 const PORT_BYTES: usize = 22;
@@ -9,7 +9,13 @@ const MAPS_START: usize = CARRIERS_START + RECORDS * CARRIER_BYTES;
 const QUEUE_START: usize = MAPS_START + RECORDS * SLOTS;
 const REQUESTS_START: usize = QUEUE_START + 1;
 const REQUEST_BYTES: usize = NAME_BYTES + 2;
-const UNUSED_START: usize = REQUESTS_START + REQUESTS * REQUEST_BYTES;
+const CLOCK_START: usize = REQUESTS_START + REQUESTS * REQUEST_BYTES;
+const SETTING_START: usize = CLOCK_START + TIME_BYTES;
+const TIMEOUT_START: usize = SETTING_START + TIME_BYTES;
+const PREDICTIONS_START: usize = TIMEOUT_START + TIME_BYTES;
+const UNUSED_START: usize = PREDICTIONS_START + RECORDS * PREDICTION_BYTES;
+const TIME_BYTES: usize = 4;
+const PREDICTION_BYTES: usize = 3 + 2 * TIME_BYTES;
 const NAME_BYTES: usize = 16;
 const PLACES: u8 = 16;
 
@@ -34,7 +40,10 @@ pub fn out_of_range(tool: &Tool) -> Option<String> {
         || (1..).zip(tool.carriers()).find_map(|(record, carrier)| of_carrier(tool, record, &carrier));
     let maps = || (1..=tool.records().len()).find_map(|record| of_expected_map(tool, record));
     let requests = || of_queue(tool);
-    counts(tool).or_else(ports).or_else(carriers).or_else(maps).or_else(requests)
+    let times = || of_times(tool);
+    let predictions = || (1..=tool.predictions().count()).find_map(|record| of_prediction(tool, record));
+    let of_01 = counts(tool).or_else(ports).or_else(carriers);
+    of_01.or_else(maps).or_else(requests).or_else(times).or_else(predictions)
 }
 
 fn counts(tool: &Tool) -> Option<String> {
@@ -109,15 +118,42 @@ fn of_queue(tool: &Tool) -> Option<String> {
     count.outside(tool).or_else(|| (0..tool.requests().len()).find_map(request))
 }
 
+/// Every number is a clock; setting time and timeout have their most.
+fn of_times(tool: &Tool) -> Option<String> {
+    let times = [("setting time", tool.setting(), SETTING_START), ("timeout", tool.timeout(), TIMEOUT_START)];
+    let (what, seconds, byte) = times.into_iter().find(|(_, seconds, _)| *seconds > SECONDS_MOST)?;
+    Some(format!("{what} {seconds}, not 0 to {SECONDS_MOST} ({})", bytes_of_time(byte)))
+}
+
+/// The state, whether there is a Tp and a Te, and zeros where there is none.
+fn of_prediction(tool: &Tool, record: usize) -> Option<String> {
+    let start = PREDICTIONS_START + PREDICTION_BYTES * (record - 1);
+    let fields = [("prediction state", 1, 6), ("has Tp", 0, 1), ("has Te", 0, 1)];
+    let fields = (start..).zip(fields).map(|(byte, (what, least, most))| Field(byte, what, least, most));
+    let times = [("Tp", start + 1, start + 3), ("Te", start + 2, start + 3 + TIME_BYTES)];
+    let bytes = tool.as_bytes();
+    let odd = |flag: usize, time: usize| bytes[flag] == 0 && !zeros(&bytes[time..time + TIME_BYTES]);
+    let odd = times.into_iter().find(|&(_, flag, time)| odd(flag, time));
+    let odd = odd.map(|(what, _, time)| format!("a {what} though it has none ({})", bytes_of_time(time)));
+    let odd = fields.into_iter().find_map(|field| field.outside(tool)).or(odd)?;
+    Some(format!("record {record}: {odd}"))
+}
+
+/// `bytes 3084 to 3087`
+fn bytes_of_time(start: usize) -> String {
+    format!("bytes {start} to {}", start + TIME_BYTES - 1)
+}
+
 /// The first byte that isn't zero though nothing uses it.
 pub fn unused(tool: &Tool) -> Option<String> {
     let (bytes, ports, records) = (tool.as_bytes(), tool.ports().len(), tool.records().len());
-    let requests = tool.requests().len();
+    let (requests, predictions) = (tool.requests().len(), tool.predictions().count());
     let unused = [
         (HEAD_BYTES + PORT_BYTES * ports..CARRIERS_START, "no port"),
         (CARRIERS_START + CARRIER_BYTES * records..MAPS_START, "no record"),
         (MAPS_START + SLOTS * records..QUEUE_START, "no record's map"),
-        (REQUESTS_START + REQUEST_BYTES * requests..UNUSED_START, "no request"),
+        (REQUESTS_START + REQUEST_BYTES * requests..CLOCK_START, "no request"),
+        (PREDICTIONS_START + PREDICTION_BYTES * predictions..UNUSED_START, "no record's prediction"),
         (UNUSED_START..bytes.len(), "nothing"),
     ];
     unused.into_iter().filter(|(range, _)| !zeros(&bytes[range.clone()])).find_map(|(mut range, of)| {

@@ -88,6 +88,8 @@ fn of_argument(tool: &Tool, argument: Argument, parts: &Parts) -> Option<Ground>
             let error = ExpectedMap::new(codes).err();
             error.and_then(|error| ground(true, Cause::ExpectedMap, error.to_string()))
         }
+        // every number is a time
+        Argument::Clock | Argument::Tp | Argument::Te => None,
     }
 }
 
@@ -148,6 +150,10 @@ fn of_row(at: &Standing) -> Grounds {
         }
         row::OUT_DONE => [at.is_started()].into(),
         29 => at.cancel_carrier_out(),
+        row::CLOCK => [at.clock()].into(),
+        row::PREDICTED_TIME => at.with_record(|c| at.predicted_time(c)),
+        row::ESTIMATE => at.with_record(|c| at.estimate(c)),
+        row::NO_PREDICTION => at.with_record(|c| at.no_prediction(c)),
         _ => Grounds::new(),
     }
 }

@@ -144,7 +144,7 @@ fn of_report(told: &Told) -> String {
         About::Port(port) => format!("port {port}"),
         About::Name(name) => format!("carrier {}", cut(&name.escape_ascii().to_string())),
     };
-    let Some(model) = Model::from_number(told.model) else {
+    let Some(model) = Model::from_number(told.model).filter(|model| *model != Model::Prediction) else {
         return format!("{subject}: model {}, {} to {}", told.model, told.old, told.new);
     };
     let (was, is) = (state(model, told.old), state(model, told.new));

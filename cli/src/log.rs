@@ -1,8 +1,8 @@
 //! `log`: writes the log of a script, as document 01 answers it.
-use crate::entry::{self, misfit};
+use crate::entry::{self, misfit, of_document_01};
 use crate::numbers::row;
 use crate::print::{self, Answer};
-use crate::script::{self, Command, Sent};
+use crate::script::{self, Command, Sent, SetUp};
 use crate::values::{self, Words};
 use hawsermole::{judge, Model, Parts, Refusal, Report, Row, Tool, Verdict};
 use std::fs;
@@ -59,9 +59,9 @@ fn read(script: &[u8]) -> Result<Run, String> {
 fn take(run: &mut Option<Run>, line: &[u8]) -> Result<(), String> {
     let sent = match (script::read(line)?, &run) {
         (Command::Nothing, _) => return Ok(()),
-        (Command::Setup { .. }, Some(_)) => return Err("a log has one set-up".into()),
-        (Command::Setup { ports, places }, None) => {
-            *run = Some(set_up(ports, places)?);
+        (Command::Setup(_), Some(_)) => return Err("a log has one set-up".into()),
+        (Command::Setup(numbers), None) => {
+            *run = Some(set_up(numbers)?);
             return Ok(());
         }
         (Command::Named(sent), _) if sent.number > row::LAST_OF_01 => return Err(requested(&sent)),
@@ -86,16 +86,23 @@ fn take(run: &mut Option<Run>, line: &[u8]) -> Result<(), String> {
 /// is an entry as of any number that has no row.
 fn requested(sent: &Sent) -> String {
     let name = Row::numbered(sent.number).map_or("", |row| row.name);
+    let instead = match sent.number > row::CANCEL_ALL_CARRIER_OUT {
+        true => "which has no predictions",
+        false => "whose CarrierOut moves the carrier at once",
+    };
     format!(
-        "'{name}' is no input of document 01, whose CarrierOut moves the carrier at once: leave it out, \
+        "'{name}' is no input of document 01, {instead}: leave it out, \
          or write in {} .., which is answered 1",
         sent.number
     )
 }
 
-fn set_up(ports: u32, places: u32) -> Result<Run, String> {
-    match (ports, places) {
-        (1..=4, 0..=16) => Ok(Run { ports: ports as u8, places: places as u8, inputs: Vec::new() }),
+fn set_up(SetUp { ports, places, setting, timeout }: SetUp) -> Result<Run, String> {
+    match (ports, places, setting, timeout) {
+        (1..=4, 0..=16, 0, 0) => Ok(Run { ports: ports as u8, places: places as u8, inputs: Vec::new() }),
+        (1..=4, 0..=16, ..) => {
+            Err("setting time or timeout: a log has none, since document 01 has no predictions".into())
+        }
         _ => Err("set-up is refused: ports are 1 to 4 and buffer places 0 to 16".into()),
     }
 }
@@ -122,7 +129,8 @@ fn write_guesses<'a>(log: &mut Vec<u8>, mut tool: Tool, inputs: impl Iterator<It
     }
 }
 
-/// What document 01 will give, by the whole tool: its answer but for CarrierOut, and 1 to the rows of requests.
+/// What document 01 will give, by the whole tool: its answer but for CarrierOut, and 1 to the rows of requests; no model
+/// 8.
 fn guess(tool: &mut Tool, sent: &Sent) -> (u8, Vec<Report>) {
     let given = match sent.number {
         row::CARRIER_OUT => return moved(tool, sent),
@@ -133,7 +141,7 @@ fn guess(tool: &mut Tool, sent: &Sent) -> (u8, Vec<Report>) {
 }
 
 fn shown(given: &Answer) -> (u8, Vec<Report>) {
-    (print::answer(given), print::reports(given).collect())
+    (print::answer(given), print::reports(given).filter(of_document_01).collect())
 }
 
 /// CarrierOut as document 01 has it is three inputs here, of which the first that is refused refuses it. The
@@ -186,6 +194,23 @@ pub mod tests {
         let started = b"CMT\0\x01\x01\0\x0D\x01\0\0\0\x01\x01\x01\x01\x03";
         assert_eq!(log("setup 1 0\nLoadStart 1"), started);
         assert_eq!(log("setup 1 0\r\nin 13 1 0 - -\r\n"), started);
+    }
+
+    /// Reports of model 8 are left out, and set-up and inputs have no times.
+    #[test]
+    fn no_prediction_reaches_a_log() {
+        let script =
+            "setup 1 0 0\nCarrierNotification A\nin 3 0 0 4220 -\nLoadStart 1\nLoadDone 1\nIdRead 1 A\n\
+                      Open A\nin 20 0 0 41 03030303030303030303030303030303030303030303030303\n\
+                      ProceedWithCarrier A 1\nAccessStart A\nin 31 0 0 - -\nAccessEnd A 0\nClose A";
+        let written = log(script);
+        assert_eq!(judge(&written, &mut Tool::none()), Verdict::Agrees { entries: 12 });
+        assert!(written.ends_with(b"\x17\0\0\x01A\0\x01\x01\x01\x03\x02"), "{written:?}");
+        assert!(error("setup 1 0 60").starts_with("line 1: setting time or timeout: a log has none"));
+        assert!(error("setup 1 0\nin 31 0 0 - - 9").starts_with("line 2: clock or time: a log has none"));
+        let clock = "line 2: 'Clock' is no input of document 01, which has no predictions: leave it out, \
+                     or write in 31 .., which is answered 1";
+        assert_eq!(error("setup 1 0\nClock 9"), clock);
     }
 
     /// P4 would take the padded name for AB, and no request is part of document 01: each such entry is corrected.

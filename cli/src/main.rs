@@ -16,6 +16,7 @@ mod numbers;
 mod options;
 mod people;
 mod player;
+mod predictions;
 mod print;
 mod progress;
 mod queue;

@@ -94,7 +94,7 @@ pub fn asked(message: &[u8], count: u32) -> Sent {
     let port = if takes(Argument::Port) || takes(Argument::PortOrNone) { read[4].data[0].into() } else { 0 };
     let map = takes(Argument::MapOrNone) && read.get(7).is_some_and(|name| name.is_text("SlotMap"));
     let codes = if map { read[9..9 + SLOTS].iter().map(|code| code.data[0]).collect() } else { Vec::new() };
-    Sent { number: row.number, port, value: 0, name: read[3].data.into(), codes }
+    Sent { number: row.number, port, name: read[3].data.into(), codes, ..Sent::default() }
 }
 
 #[cfg(test)]

@@ -42,6 +42,15 @@ pub mod accessing {
     pub const IN_ACCESS: u8 = 2;
 }
 
+/// State of a prediction.
+pub mod prediction {
+    pub const DISABLED: u8 = 1;
+    pub const WAITING_FOR_CARRIER: u8 = 2;
+    pub const WAITING_FOR_PREDICTION: u8 = 3;
+    pub const PREDICTED: u8 = 4;
+    pub const ABORTED: u8 = 5;
+}
+
 /// State of a request of CarrierOut.
 pub mod request {
     pub const STARTED: u8 = 1;
@@ -54,6 +63,10 @@ pub mod row {
     pub const OUT_START: u32 = 27;
     pub const OUT_DONE: u32 = 28;
     pub const CANCEL_ALL_CARRIER_OUT: u32 = 30;
+    pub const CLOCK: u32 = 31;
+    pub const PREDICTED_TIME: u32 = 32;
+    pub const ESTIMATE: u32 = 33;
+    pub const NO_PREDICTION: u32 = 34;
     /// The last row of document 01.
     pub const LAST_OF_01: u32 = 26;
 }

@@ -96,6 +96,8 @@ pub fn help() -> String {
         ("END", "0 complete, 1 stopped"),
         ("CODES", values::CODES),
         ("MAP", "the slot map that the host expects, as CODES, each 1 or 3; may be left out"),
+        ("CLOCK", "the time in seconds, never earlier than the last that was accepted"),
+        ("TP, TE", "the time in seconds at which the carrier will be ready to unload"),
     ] {
         text += &format!("\n  {word:<10}{meaning}");
     }
@@ -134,8 +136,11 @@ standard output. A file whose name is one of these two words is played as ./judg
 A script has one command on each line, its words apart by spaces or tabs. An empty line, and one that
 begins with #, prints nothing.
 
-  setup P B                         a tool of P ports (1 to 4) and B buffer places (0 to 16)
-  in NUMBER PORT VALUE NAME CODES   an input by number; NAME and CODES in hex, - for none
+  setup P B [SETTING TIMEOUT]       a tool of P ports (1 to 4) and B buffer places (0 to 16); setting time
+                                    and timeout of predictions in seconds (0 to 86400), 0 where left out
+  in NUMBER PORT VALUE NAME CODES [CLOCK TIME]
+                                    an input by number; NAME and CODES in hex, - for none; CLOCK and TIME
+                                    in seconds, 0 where left out
   secs HEX                          a message from the host bridge: the text of an S3F17 in hex
   exchange HEX ROOM                 the same, and its reply, the text of an S3F18, in ROOM bytes of room
   reply NUMBER ROOM                 the reply to an answer, which may be any number
@@ -171,6 +176,8 @@ dump prints    port I TRANSFER ACCESS RESERVED TIE MOVEMENT POD TAG
                rec NAME PLACE SPOT PORT OPEN CANCELLED CAME-OUT CODES ID SLOT ACCESSING
                map NAME CODES   for each record with an expected map
                out NAME PORT STARTED   for each CarrierOut that is queued, the oldest first
+               time CLOCK SETTING TIMEOUT   CLOCK is the last that was accepted
+               predict NAME STATE TP TE   for each record where B is 0; - for no time
                end
 waiting prints waiting POSITION READ, or waiting none READ   the place of the first record, from 0,
                whose carrier waits for the host, and how many records were read to know
@@ -267,7 +274,8 @@ mod tests {
         let help = help();
         assert!(ROWS.iter().all(|row| help.contains(&format!("  {} ", row.name))));
         assert!(help.contains("\n   8  the buffer place is taken, or the opener is in use\n"));
-        assert!(help.contains("\n  10  CarrierOut is queued already\n"));
+        assert!(help.contains("\n  11  the clock is earlier than the last accepted\n"));
+        assert!(help.contains("\n  PredictedTime CLOCK NAME TP "));
         assert!(help.contains("\n  26  another shape or action\n"));
         assert!(help.ends_with("\n  29  the log is cut short\n"));
     }

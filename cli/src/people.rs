@@ -1,9 +1,10 @@
 //! The tool for people: what `state` prints.
 use crate::explain::tool_kind;
 use crate::soundness;
-use hawsermole::{words, Carrier, Port, Request, Tool};
+use hawsermole::{words, Carrier, Port, Prediction, Request, Tool};
 
-/// A line for the tool, for each port, for each carrier and for each CarrierOut that is queued, the oldest first.
+/// A line for the tool, for the clock once there is one, for each port, for each carrier and for each CarrierOut that is
+/// queued, the oldest first.
 pub fn state(tool: &Tool) -> String {
     if *tool == Tool::none() {
         return "there is no tool: set one up with setup P B\n".into();
@@ -13,7 +14,8 @@ pub fn state(tool: &Tool) -> String {
     let carriers = if carriers.is_empty() { "no carriers\n".into() } else { carriers };
     let requests: String = tool.requests().map(|of| format!("CarrierOut of {}\n", request(&of))).collect();
     let fault = soundness::fault(tool).map_or(String::new(), |fault| format!("not sound, {fault}\n"));
-    format!("{}\n", tool_kind(tool)) + &fault + &ports + &carriers + &requests
+    let clock = if tool.clock() == 0 { String::new() } else { format!("clock {}\n", tool.clock()) };
+    format!("{}\n", tool_kind(tool)) + &fault + &clock + &ports + &carriers + &requests
 }
 
 fn port(port: Port) -> String {
@@ -49,6 +51,9 @@ fn carrier(tool: &Tool, carrier: Carrier) -> String {
             parts.push(word.into());
         }
     }
+    if let Some(own) = tool.prediction(carrier.name.as_bytes()) {
+        parts.push(foretold(&own));
+    }
     if let Some(map) = tool.expected_map(carrier.name.as_bytes()) {
         parts.push(format!("expected map {}", codes(map)));
     }
@@ -60,6 +65,18 @@ fn carrier(tool: &Tool, carrier: Carrier) -> String {
 
 fn codes(map: &[u8]) -> String {
     map.iter().map(|code| code.to_string()).collect()
+}
+
+/// `PREDICTED, ready at 1100, now estimated at 1150`.
+fn foretold(Prediction { state, tp, te, .. }: &Prediction) -> String {
+    let tp = tp.map_or(String::new(), |tp| format!(", ready at {tp}"));
+    let te = te.map_or(String::new(), |te| format!(", now estimated at {te}"));
+    format!("{}{tp}{te}", words::prediction(*state))
+}
+
+/// `AB is PREDICTED, ready at 1100`.
+pub fn prediction(of: &Prediction) -> String {
+    format!("{} is {}", of.name, foretold(of))
 }
 
 /// `AB to port 1, queued`.
@@ -80,7 +97,7 @@ pub fn place(carrier: &Carrier) -> String {
 #[cfg(test)]
 mod tests {
     use super::*;
-    use crate::print::tests::{stored, tool};
+    use crate::print::tests::{accessed, stored, tool};
     use hawsermole::{ExpectedMap, Input};
 
     fn after(ports: u32, places: u32, inputs: &[Input]) -> String {
@@ -120,7 +137,7 @@ mod tests {
     #[test]
     fn expected_maps() {
         let map = ExpectedMap::new(&[1; 25]).unwrap();
-        let announced = after(1, 0, &[Input::CarrierNotificationWithMap { name: b"C", map }]);
+        let announced = after(1, 1, &[Input::CarrierNotificationWithMap { name: b"C", map }]);
         let expected = "NOT ACCESSED, expected map 1111111111111111111111111\n";
         assert!(announced.ends_with(expected), "{announced}");
     }
@@ -148,6 +165,19 @@ mod tests {
             Input::OutDone { port: 1 },
         ]);
         assert!(after(1, 2, &inputs).contains("NOT ACCESSED, cancelled, came out, slot map 3"));
+    }
+
+    #[test]
+    fn predictions_and_the_clock() {
+        let mut tool = accessed(60, 120);
+        let told = state(&tool);
+        assert!(told.starts_with("fixed buffer tool, 2 ports, setting time 60 s, timeout 120 s\nport 1:"));
+        assert!(told.contains("IN ACCESS, WAITING FOR PREDICTION, slot map 3"), "{told}");
+        tool.step(&Input::PredictedTime { clock: 1000, name: b"A", tp: 1050 }).unwrap();
+        tool.step(&Input::Estimate { clock: 1001, name: b"A", te: 1049 }).unwrap();
+        let told = state(&tool);
+        assert!(told.contains(" s\nclock 1001\nport 1:"), "{told}");
+        assert!(told.contains("PREDICTED, ready at 1050, now estimated at 1049, slot map"), "{told}");
     }
 
     #[test]

@@ -1,6 +1,6 @@
 //! The player: the tool, and what each command prints.
 use crate::print::{self, Answer};
-use crate::script::{Command, Sent};
+use crate::script::{Command, Sent, SetUp};
 use crate::{explain, message, people, reply};
 use hawsermole::{Bridged, Exchanged, Refusal, Tool};
 
@@ -32,7 +32,7 @@ impl Player {
     pub fn play(&mut self, command: &Command) -> String {
         match command {
             Command::Nothing => String::new(),
-            Command::Setup { ports, places } => self.setup(*ports, *places),
+            Command::Setup(set_up) => self.setup(*set_up),
             Command::In(sent) => self.input(sent, print::numbered),
             Command::Named(sent) => self.input(sent, print::named),
             Command::Secs(message) => self.secs(message),
@@ -46,8 +46,8 @@ impl Player {
     }
 
     /// A refused set-up takes the tool away.
-    fn setup(&mut self, ports: u32, places: u32) -> String {
-        let refusal = match Tool::setup(ports, places) {
+    fn setup(&mut self, SetUp { ports, places, setting, timeout }: SetUp) -> String {
+        let refusal = match Tool::setup_with_times(ports, places, setting, timeout) {
             Ok(tool) => {
                 self.tool = tool;
                 None
@@ -182,14 +182,14 @@ mod tests {
         let explained = played(true, &lines);
         let plain: Vec<&str> = explained.lines().filter(|line| !line.starts_with("  ")).collect();
         assert_eq!(plain.join("\n") + "\n", played(false, &lines));
-        assert!(explained.contains("     18    L,0\n0 5 ["), "{explained}");
+        assert!(explained.contains("     18    L,0\n0 6 ["), "{explained}");
         assert!(explained.contains("]\n  Bind(1, AB): associate"), "{explained}");
         assert!(explained.ends_with(
             "  at byte 2: the message ends where an item should begin\n  the tool gets no input\n"
         ));
     }
 
-    const BOUND: &str = "0 5 [3 1 0 1; 4 1 0 1; 5 4142 0 1; 6 4142 0 1; 7 4142 0 1]";
+    const BOUND: &str = "0 6 [3 1 0 1; 4 1 0 1; 5 4142 0 1; 6 4142 0 1; 7 4142 0 1; 8 4142 0 2]";
 
     /// Where the room is too small, the tool gets no input, and the same message is accepted afterwards.
     #[test]

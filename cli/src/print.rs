@@ -1,5 +1,7 @@
 //! The printers: answers, reports and the state in the forms that programs read.
-use hawsermole::{Carrier, Name, Port, Refusal, Report, Reports, Request, Subject, Tool, Waiting};
+use hawsermole::{
+    Carrier, Name, Port, Prediction, Refusal, Report, Reports, Request, Subject, Tool, Waiting,
+};
 
 /// What the machine answers to an input.
 pub type Answer = Result<Reports, Refusal>;
@@ -54,14 +56,25 @@ pub fn waiting(Waiting { first, read }: Waiting) -> String {
     format!("waiting {first} {read}\n")
 }
 
-/// The whole state: a line for each port, record, expected map and request of CarrierOut, `end`.
+/// The whole state: a line for each port, record, expected map and request of CarrierOut, one for the times, one for each
+/// prediction, `end`. Without a tool there are no times.
 pub fn dump(tool: &Tool) -> String {
+    if *tool == Tool::none() {
+        return "end\n".into();
+    }
     let ports: String = tool.ports().map(port_line).collect();
     let records: String = tool.carriers().map(record_line).collect();
     let maps: String =
         tool.expected_maps().map(|(of, map)| format!("map {} {}\n", name(of), hex(map))).collect();
     let requests: String = tool.requests().map(request_line).collect();
-    ports + &records + &maps + &requests + "end\n"
+    let times = format!("time {} {} {}\n", tool.clock(), tool.setting(), tool.timeout());
+    let predictions: String = tool.predictions().map(prediction_line).collect();
+    ports + &records + &maps + &requests + &times + &predictions + "end\n"
+}
+
+fn prediction_line(Prediction { name: of, state, tp, te }: Prediction) -> String {
+    let time = |given: Option<u32>| given.map_or("-".into(), |seconds| seconds.to_string());
+    format!("predict {} {state} {} {}\n", name(of), time(tp), time(te))
 }
 
 fn request_line(request: Request) -> String {
@@ -130,14 +143,33 @@ pub mod tests {
         tool
     }
 
+    /// A fixed buffer tool of two ports with these times; A is at port 1, IN ACCESS.
+    pub fn accessed(setting: u32, timeout: u32) -> Tool {
+        let mut tool = Tool::setup_with_times(2, 0, setting, timeout).unwrap();
+        let (name, codes) = (b"A", &[3; 25]);
+        for input in [
+            Input::LoadStart { port: 1 },
+            Input::LoadDone { port: 1 },
+            Input::IdRead { port: 1, name },
+            Input::ProceedWithCarrier { name, port: 1 },
+            Input::Open { name },
+            Input::SlotMap { name, codes },
+            Input::ProceedWithCarrier { name, port: 1 },
+            Input::AccessStart { name },
+        ] {
+            tool.step(&input).unwrap();
+        }
+        tool
+    }
+
     const BIND: Input = Input::Bind { port: 1, name: b"AB" };
 
     #[test]
     fn accepted_answers_in_both_forms() {
         let given = tool(1, 0, &[]).step(&BIND);
-        let by_number = "0 5 [3 1 0 1; 4 1 0 1; 5 4142 0 1; 6 4142 0 1; 7 4142 0 1]\n";
+        let by_number = "0 6 [3 1 0 1; 4 1 0 1; 5 4142 0 1; 6 4142 0 1; 7 4142 0 1; 8 4142 0 2]\n";
         assert_eq!(numbered(&given), by_number);
-        assert_eq!(named(&given), "0  3 1 0>1; 4 1 0>1; 5 AB 0>1; 6 AB 0>1; 7 AB 0>1\n");
+        assert_eq!(named(&given), "0  3 1 0>1; 4 1 0>1; 5 AB 0>1; 6 AB 0>1; 7 AB 0>1; 8 AB 0>2\n");
     }
 
     #[test]
@@ -154,16 +186,19 @@ pub mod tests {
         for name in [&br#"a'"\~!"#[..], br#"a'"\~!  "#] {
             let given = tool(1, 0, &[]).step(&Input::CarrierNotification { name });
             assert!(named(&given).starts_with(r#"0  5 a'"\~! 0>1"#));
-            assert!(numbered(&given).starts_with("0 3 [5 6127225c7e21 0 1;"));
+            assert!(numbered(&given).starts_with("0 4 [5 6127225c7e21 0 1;"));
         }
     }
 
     #[test]
     fn dumps() {
         assert_eq!(dump(&Tool::none()), "end\n");
-        assert_eq!(dump(&tool(2, 3, &[])), "port 1 1 0 0 - 0 0 0\nport 2 1 0 0 - 0 0 0\nend\n");
+        let empty = "port 1 1 0 0 - 0 0 0\nport 2 1 0 0 - 0 0 0\ntime 0 0 0\nend\n";
+        assert_eq!(dump(&tool(2, 3, &[])), empty);
         let bound = tool(1, 0, &[BIND, Input::LoadStart { port: 1 }]);
-        assert_eq!(dump(&bound), "port 1 3 0 0 4142 1 0 0\nrec 4142 0 0 1 0 0 0 - 1 1 1\nend\n");
+        let expected = "port 1 3 0 0 4142 1 0 0\nrec 4142 0 0 1 0 0 0 - 1 1 1\n\
+                        time 0 0 0\npredict 4142 2 - -\nend\n";
+        assert_eq!(dump(&bound), expected);
     }
 
     /// Every field of the two lines differs from its neighbours where its range allows it.
@@ -184,7 +219,7 @@ pub mod tests {
             tool.step(&input).unwrap();
         }
         let map = "03".repeat(24) + "05";
-        let expected = format!("port 1 1 1 0 - 0 0 0\nrec 4142 2 9 0 1 0 0 {map} 3 2 1\nend\n");
+        let expected = format!("port 1 1 1 0 - 0 0 0\nrec 4142 2 9 0 1 0 0 {map} 3 2 1\ntime 0 0 0\nend\n");
         assert_eq!(dump(&tool), expected);
     }
 
@@ -200,7 +235,8 @@ pub mod tests {
         ];
         let records = "rec 42 0 0 0 0 0 0 - 1 1 1\nrec 43 0 0 0 0 0 0 - 1 1 1\nrec 41 0 0 1 0 0 0 - 1 1 1\n";
         let maps = format!("map 42 {}\nmap 41 {}\n", "01".repeat(25), "03".repeat(25));
-        assert_eq!(dump(&tool(1, 0, &inputs)), format!("port 1 1 0 1 41 0 0 0\n{records}{maps}end\n"));
+        let expected = format!("port 1 1 0 1 41 0 0 0\n{records}{maps}time 0 0 0\nend\n");
+        assert_eq!(dump(&tool(1, 1, &inputs)), expected);
     }
 
     /// The oldest first, after the maps.
@@ -216,8 +252,31 @@ pub mod tests {
         ] {
             tool.step(&input).unwrap();
         }
-        let end = format!("map 44 {}\nout 43 1 0\nout 41 2 1\nend\n", "03".repeat(25));
+        let end = format!("map 44 {}\nout 43 1 0\nout 41 2 1\ntime 0 0 0\nend\n", "03".repeat(25));
         assert!(dump(&tool).ends_with(&end), "{}", dump(&tool));
+    }
+
+    /// In the order of the records, after the times; in a tool without a buffer alone.
+    #[test]
+    fn dumps_of_predictions() {
+        let mut tool = accessed(60, 86_400);
+        for input in [
+            Input::CarrierNotification { name: b"B" },
+            Input::PredictedTime { clock: u32::MAX, name: b"A", tp: 0 },
+            Input::Estimate { clock: u32::MAX, name: b"A", te: 7 },
+        ] {
+            tool.step(&input).unwrap();
+        }
+        let end = "time 4294967295 60 86400\npredict 41 5 0 7\npredict 42 2 - -\nend\n";
+        assert!(dump(&tool).ends_with(end), "{}", dump(&tool));
+        let mut buffer = Tool::setup_with_times(1, 1, 3, 4).unwrap();
+        buffer.step(&Input::CarrierNotification { name: b"B" }).unwrap();
+        buffer.step(&Input::Clock { clock: 9 }).unwrap();
+        assert!(
+            dump(&buffer).ends_with("rec 42 0 0 0 0 0 0 - 1 1 1\ntime 9 3 4\nend\n"),
+            "{}",
+            dump(&buffer)
+        );
     }
 
     #[test]

@@ -1,4 +1,5 @@
 //! What tests run on: every state that runs of a small tool reach, the states of a long run, and odd ones.
+use crate::numbers::row;
 use crate::script::Sent;
 use hawsermole::{Argument, Tool, REQUESTS, ROWS, SLOTS, TOOL_BYTES};
 use std::collections::BTreeSet;
@@ -25,8 +26,9 @@ impl Dice {
 /// What an argument may be: a port, a second number, a name, codes.
 type Choice = Box<dyn Fn(&mut Sent)>;
 
-fn numbers(last: u32, set: fn(&mut Sent, u32)) -> Vec<Choice> {
-    (0..=last).map(|number| Box::new(move |sent: &mut Sent| set(sent, number)) as Choice).collect()
+fn numbers(numbers: impl IntoIterator<Item = u32>, set: fn(&mut Sent, u32)) -> Vec<Choice> {
+    let choice = |number| Box::new(move |sent: &mut Sent| set(sent, number)) as Choice;
+    numbers.into_iter().map(choice).collect()
 }
 
 fn texts(texts: &[&[u8]], set: fn(&mut Sent, Vec<u8>)) -> Vec<Choice> {
@@ -35,6 +37,16 @@ fn texts(texts: &[&[u8]], set: fn(&mut Sent, Vec<u8>)) -> Vec<Choice> {
         Box::new(move |sent: &mut Sent| set(sent, text.clone())) as Choice
     };
     texts.iter().map(choice).collect()
+}
+
+/// Clocks and times that meet all that is judged, with this setting time and timeout: a carrier that is ready at 1 is
+/// PREDICTED at once, and late from 3 on; one that is ready at 4 waits until 3.
+const CLOCKS: [u32; 3] = [0, 1, 3];
+const TIMES: [u32; 2] = [1, 4];
+
+/// A tool with the times above.
+pub fn set_up(ports: u32, places: u32) -> Tool {
+    Tool::setup_with_times(ports, places, 1, 2).unwrap()
 }
 
 /// Every input to a tool: each row with each choice of its arguments. `odd` adds what is outside the ranges.
@@ -51,12 +63,14 @@ pub fn inputs(ports: u32, places: u32, names: &[&[u8]], odd: bool) -> Vec<Sent> 
         for argument in row.arguments {
             let choices = match argument {
                 Argument::Port | Argument::PortOrNone => {
-                    numbers(ports + beyond, |sent, port| sent.port = port)
+                    numbers(0..=ports + beyond, |sent, port| sent.port = port)
                 }
-                Argument::Place => numbers(places + beyond, |sent, value| sent.value = value),
+                Argument::Place => numbers(0..=places + beyond, |sent, value| sent.value = value),
                 Argument::Access | Argument::Service | Argument::End => {
-                    numbers(1 + beyond, |sent, value| sent.value = value)
+                    numbers(0..=1 + beyond, |sent, value| sent.value = value)
                 }
+                Argument::Clock => numbers(CLOCKS, |sent, clock| sent.clock = clock),
+                Argument::Tp | Argument::Te => numbers(TIMES, |sent, time| sent.time = time),
                 Argument::Name | Argument::NameOrNone => texts(&names, |sent, name| sent.name = name),
                 Argument::Codes => texts(&codes, |sent, codes| sent.codes = codes),
                 Argument::MapOrNone => texts(&maps, |sent, codes| sent.codes = codes),
@@ -77,9 +91,9 @@ fn with_each(sent: &[Sent], choices: &[Choice]) -> Vec<Sent> {
     sent.iter().flat_map(|sent| choices.iter().map(move |choice| with(sent, choice))).collect()
 }
 
-/// The states that runs of these inputs reach, in the order in which they are met, but no more than so many.
-pub fn reached(ports: u32, places: u32, inputs: &[Sent], most: usize) -> Vec<Tool> {
-    let mut states = vec![Tool::setup(ports, places).unwrap()];
+/// The states that runs of these inputs reach from a tool, in the order in which they are met, but no more than so many.
+pub fn reached(first: Tool, inputs: &[Sent], most: usize) -> Vec<Tool> {
+    let mut states = vec![first];
     let mut met = BTreeSet::from([key(&states[0])]);
     let mut next = 0;
     while next < states.len() && states.len() < most {
@@ -96,22 +110,32 @@ pub fn reached(ports: u32, places: u32, inputs: &[Sent], most: usize) -> Vec<Too
 
 /// Where the queue begins: the number of requests.
 const QUEUE: usize = 2791;
+/// Where the clock stands, and the first prediction.
+const CLOCK: usize = 3080;
+const PREDICTIONS: usize = 3092;
 
-/// The bytes of a tool that its ports, its first few records and its first few requests use.
+/// The bytes of a tool that its ports, its times, its first few records with their predictions and its first few
+/// requests use.
 fn key(tool: &Tool) -> Vec<u8> {
     let bytes = tool.as_bytes();
-    [&bytes[..91], tool.records().concat().as_slice(), &bytes[1891..1966], &bytes[QUEUE..QUEUE + 55]].concat()
+    let requests = [&bytes[1891..1966], &bytes[QUEUE..QUEUE + 55], &bytes[CLOCK..PREDICTIONS + 33]].concat();
+    [&bytes[..91], tool.records().concat().as_slice(), &requests].concat()
 }
 
 /// Rows that take back, turn away or let go: drawn less often, so that a run fills its tool.
 const BACKWARD: [u32; 10] = [2, 4, 6, 10, 12, 15, 24, 26, 29, 30];
 
-/// The states of one long run.
+/// The states of one long run. Its clock goes on, and the times of its inputs with it; in a tool with a buffer, which
+/// predicts nothing, it is the clock alone.
 pub fn long_run(ports: u32, places: u32, inputs: &[Sent], steps: usize, dice: &mut Dice) -> Vec<Tool> {
-    let mut tool = Tool::setup(ports, places).unwrap();
+    let mut tool = set_up(ports, places);
     let mut states = Vec::new();
-    for _ in 0..steps {
-        let sent = dice.one(inputs);
+    let does = |sent: &&Sent| places == 0 || sent.number <= row::CLOCK;
+    let inputs: Vec<&Sent> = inputs.iter().filter(does).collect();
+    for step in 0..steps {
+        let mut sent = (*dice.one(&inputs)).clone();
+        let day = step as u32 / 50 * 5;
+        (sent.clock, sent.time) = (sent.clock + day, sent.time + day);
         let drawn = !BACKWARD.contains(&sent.number) || dice.below(8) == 0;
         if drawn && tool.step_parts(&sent.parts()).is_ok() {
             states.push(tool.clone());
@@ -124,12 +148,13 @@ pub fn long_run(ports: u32, places: u32, inputs: &[Sent], steps: usize, dice: &m
 pub fn damaged(tool: &Tool, dice: &mut Dice) -> Tool {
     let mut bytes = *tool.as_bytes();
     for _ in 0..1 + dice.below(3) {
-        match dice.below(6) {
+        match dice.below(7) {
             0 => bytes[dice.below(TOOL_BYTES)] = dice.below(256) as u8,
             1 => bytes[1891 + dice.below(75)] = dice.below(5) as u8,
             2 => change_port(&mut bytes, 3 + 22 * dice.below(tool.ports().len()), dice),
             3 if tool.requests().len() > 0 => change_request(&mut bytes, tool, dice),
             3 | 4 => add_request(&mut bytes, tool, dice),
+            5 => change_prediction(&mut bytes, tool, dice),
             _ if tool.records().is_empty() => bytes[91 + dice.below(50)] = 1,
             _ => change_record(&mut bytes, tool, dice),
         }
@@ -157,13 +182,25 @@ fn add_request(bytes: &mut [u8; TOOL_BYTES], tool: &Tool, dice: &mut Dice) {
 
 fn change_request(bytes: &mut [u8; TOOL_BYTES], tool: &Tool, dice: &mut Dice) {
     let start = QUEUE + 1 + 18 * dice.below(tool.requests().len());
+    let other = QUEUE + 1 + 18 * dice.below(tool.requests().len());
     let record = 91 + 50 * dice.below(tool.records().len().max(1));
-    match dice.below(5) {
+    match dice.below(6) {
         0 => bytes.copy_within(record..record + 16, start),
         1 => bytes[start + 16] = dice.below(tool.ports().len() + 2) as u8,
         2 => bytes[start + 17] = dice.below(3) as u8,
         3 => bytes[QUEUE] = dice.below(REQUESTS + 2) as u8,
+        4 => bytes.copy_within(other + 16..other + 18, start + 16),
         _ => bytes[start + dice.below(16)] = dice.below(128) as u8,
+    }
+}
+
+fn change_prediction(bytes: &mut [u8; TOOL_BYTES], tool: &Tool, dice: &mut Dice) {
+    let start = PREDICTIONS + 11 * dice.below(tool.records().len().max(1));
+    match dice.below(5) {
+        0 | 1 => bytes[start] = dice.below(8) as u8,
+        2 => bytes[start + 1 + dice.below(2)] = dice.below(3) as u8,
+        3 => bytes[start + 3 + dice.below(8)] = dice.below(5) as u8,
+        _ => bytes[CLOCK + dice.below(12)] = dice.below(4) as u8,
     }
 }
 

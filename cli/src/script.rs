@@ -10,10 +10,7 @@ use std::path::PathBuf;
 pub enum Command {
     /// A blank line or a comment.
     Nothing,
-    Setup {
-        ports: u32,
-        places: u32,
-    },
+    Setup(SetUp),
     /// An input by number.
     In(Sent),
     /// An input by name.
@@ -41,6 +38,15 @@ pub enum Command {
     Expect(Vec<String>),
 }
 
+/// The numbers of a set-up; times that are left out are 0.
+#[derive(Clone, Copy, Debug, Default, PartialEq, Eq)]
+pub struct SetUp {
+    pub ports: u32,
+    pub places: u32,
+    pub setting: u32,
+    pub timeout: u32,
+}
+
 /// An input as it was written, ready to be sent.
 #[derive(Clone, Debug, Default, PartialEq, Eq)]
 pub struct Sent {
@@ -49,21 +55,23 @@ pub struct Sent {
     pub value: u32,
     pub name: Vec<u8>,
     pub codes: Vec<u8>,
+    pub clock: u32,
+    pub time: u32,
 }
 
 impl Sent {
     /// The input as the machine takes it.
     pub fn parts(&self) -> Parts<'_> {
-        let Sent { number, port, value, .. } = *self;
-        Parts { number, port, value, name: &self.name, codes: &self.codes }
+        let Sent { number, port, value, clock, time, .. } = *self;
+        Parts { number, port, value, name: &self.name, codes: &self.codes, clock, time }
     }
 }
 
 const COMMANDS: [&str; 12] = [
     "setup", "in", "secs", "exchange", "reply", "dump", "state", "waiting", "save", "load", "undo", "expect",
 ];
-const SETUP: &str = "setup P B";
-const IN: &str = "in NUMBER PORT VALUE NAME CODES";
+const SETUP: &str = "setup P B [SETTING TIMEOUT]";
+const IN: &str = "in NUMBER PORT VALUE NAME CODES [CLOCK TIME]";
 const SECS: &str = "secs HEX";
 const EXCHANGE: &str = "exchange HEX ROOM";
 const REPLY: &str = "reply NUMBER ROOM";
@@ -100,8 +108,14 @@ pub fn read(line: &[u8]) -> Result<Command, String> {
 fn read_setup(mut words: Words) -> Result<Command, String> {
     let ports = values::number("ports", words.argument("number of ports", SETUP)?)?;
     let places = values::number("places", words.argument("number of buffer places", SETUP)?)?;
+    let (setting, timeout) = (optional("setting", &mut words)?, optional("timeout", &mut words)?);
     words.end(SETUP)?;
-    Ok(Command::Setup { ports, places })
+    Ok(Command::Setup(SetUp { ports, places, setting, timeout }))
+}
+
+/// A number that may be left out at the end of a line, for 0.
+fn optional(what: &str, words: &mut Words) -> Result<u32, String> {
+    words.next().map_or(Ok(0), |word| values::number(what, word))
 }
 
 fn read_in(mut words: Words) -> Result<Command, String> {
@@ -111,6 +125,8 @@ fn read_in(mut words: Words) -> Result<Command, String> {
         value: values::number("value", words.argument("value", IN)?)?,
         name: values::hex("name", words.argument("name", IN)?)?,
         codes: values::hex("codes", words.argument("codes", IN)?)?,
+        clock: optional("clock", &mut words)?,
+        time: optional("time", &mut words)?,
     };
     words.end(IN)?;
     Ok(Command::In(sent))
@@ -167,6 +183,8 @@ fn read_named(first: &[u8], mut words: Words) -> Result<Command, String> {
             Argument::Access | Argument::Service | Argument::Place | Argument::End => {
                 sent.value = values::number(what, word)?
             }
+            Argument::Clock => sent.clock = values::number(what, word)?,
+            Argument::Tp | Argument::Te => sent.time = values::number(what, word)?,
         }
     }
     words.end(&usage)?;
@@ -202,7 +220,11 @@ mod tests {
     use super::*;
 
     fn sent(number: u32, port: u32, value: u32, name: &[u8], codes: &[u8]) -> Sent {
-        Sent { number, port, value, name: name.into(), codes: codes.into() }
+        Sent { number, port, value, name: name.into(), codes: codes.into(), ..Sent::default() }
+    }
+
+    fn timed(number: u32, clock: u32, name: &[u8], time: u32) -> Sent {
+        Sent { number, clock, name: name.into(), time, ..Sent::default() }
     }
 
     fn named(line: &str) -> Sent {
@@ -225,8 +247,12 @@ mod tests {
 
     #[test]
     fn commands() {
-        assert_eq!(read(b"setup 2 16\n"), Ok(Command::Setup { ports: 2, places: 16 }));
-        assert_eq!(read(b"setup 0 4294967295"), Ok(Command::Setup { ports: 0, places: u32::MAX }));
+        let set_up =
+            |ports, places, setting, timeout| Ok(Command::Setup(SetUp { ports, places, setting, timeout }));
+        assert_eq!(read(b"setup 2 16\n"), set_up(2, 16, 0, 0));
+        assert_eq!(read(b"setup 0 4294967295"), set_up(0, u32::MAX, 0, 0));
+        assert_eq!(read(b"setup 2 0 60"), set_up(2, 0, 60, 0));
+        assert_eq!(read(b"setup 2 0 60 4294967295"), set_up(2, 0, 60, u32::MAX));
         assert_eq!(read(b"dump\r\n"), Ok(Command::Dump));
         assert_eq!(read(b"\tstate "), Ok(Command::State));
         assert_eq!(read(b"waiting\n"), Ok(Command::Waiting));
@@ -241,6 +267,8 @@ mod tests {
         assert_eq!(read(b"reply 4294967295 0"), Ok(Command::Reply { number: u32::MAX, room: 0 }));
         assert_eq!(read(b"in 20 1 2 4142 0305"), Ok(Command::In(sent(20, 1, 2, b"AB", &[3, 5]))));
         assert_eq!(read(b"in 4294967295 0 0 - -"), Ok(Command::In(sent(u32::MAX, 0, 0, b"", b""))));
+        assert_eq!(read(b"in 31 0 0 - - 9"), Ok(Command::In(timed(31, 9, b"", 0))));
+        assert_eq!(read(b"in 32 0 0 4142 - 9 4294967295"), Ok(Command::In(timed(32, 9, b"AB", u32::MAX))));
     }
 
     /// Each named input with its arguments in the documents' order.
@@ -281,6 +309,10 @@ mod tests {
         assert_eq!(named("OutDone 1"), sent(28, 1, 0, b"", b""));
         assert_eq!(named("CancelCarrierOut AB"), sent(29, 0, 0, b"AB", b""));
         assert_eq!(named("CancelAllCarrierOut"), sent(30, 0, 0, b"", b""));
+        assert_eq!(named("Clock 9"), timed(31, 9, b"", 0));
+        assert_eq!(named("PredictedTime 9 AB 69"), timed(32, 9, b"AB", 69));
+        assert_eq!(named("Estimate 9 AB 69"), timed(33, 9, b"AB", 69));
+        assert_eq!(named("NoPrediction 9 AB"), timed(34, 9, b"AB", 0));
     }
 
     #[test]
@@ -311,8 +343,13 @@ mod tests {
         assert_eq!(error("expect"), "word missing: expected expect WORD..");
         assert_eq!(error("exchange 01"), "room missing: expected exchange HEX ROOM");
         assert_eq!(error("reply 1"), "room missing: expected reply NUMBER ROOM");
-        assert_eq!(error("setup 1"), "number of buffer places missing: expected setup P B");
-        assert_eq!(error("in 1 1 0 4142"), "codes missing: expected in NUMBER PORT VALUE NAME CODES");
+        assert_eq!(error("setup 1"), "number of buffer places missing: expected setup P B [SETTING TIMEOUT]");
+        assert_eq!(
+            error("in 1 1 0 4142"),
+            "codes missing: expected in NUMBER PORT VALUE NAME CODES [CLOCK TIME]"
+        );
+        assert_eq!(error("Clock"), "clock missing: expected Clock CLOCK");
+        assert_eq!(error("PredictedTime 9 AB"), "tp missing: expected PredictedTime CLOCK NAME TP");
     }
 
     #[test]
@@ -327,10 +364,13 @@ mod tests {
         assert_eq!(error("waiting 1"), "'1' is one word too many: expected waiting");
         assert_eq!(error("load a b"), "'b' is one word too many: expected load FILE");
         assert_eq!(error("undo 2"), "'2' is one word too many: expected undo");
-        assert_eq!(error("setup 1 0 0"), "'0' is one word too many: expected setup P B");
         assert_eq!(
-            error("in 1 1 0 - - -"),
-            "'-' is one word too many: expected in NUMBER PORT VALUE NAME CODES"
+            error("setup 1 0 0 0 0"),
+            "'0' is one word too many: expected setup P B [SETTING TIMEOUT]"
+        );
+        assert_eq!(
+            error("in 1 1 0 - - 0 0 -"),
+            "'-' is one word too many: expected in NUMBER PORT VALUE NAME CODES [CLOCK TIME]"
         );
     }
 
@@ -338,6 +378,11 @@ mod tests {
     fn wrong_values_are_named() {
         assert_eq!(error("Bind AB 1"), "port: 'AB' is not a number from 0 to 4294967295");
         assert_eq!(error("setup two 0"), "ports: 'two' is not a number from 0 to 4294967295");
+        assert_eq!(error("setup 2 0 1m"), "setting: '1m' is not a number from 0 to 4294967295");
+        assert_eq!(error("setup 2 0 60 -"), "timeout: '-' is not a number from 0 to 4294967295");
+        assert_eq!(error("in 31 0 0 - - -"), "clock: '-' is not a number from 0 to 4294967295");
+        assert_eq!(error("Clock 4294967296"), "clock: '4294967296' is not a number from 0 to 4294967295");
+        assert_eq!(error("Estimate 9 AB -1"), "te: '-1' is not a number from 0 to 4294967295");
         assert_eq!(error("ChangeAccess 1 AUTO"), "access: 'AUTO' is not a number from 0 to 4294967295");
         assert_eq!(error("in 1 1 0 AB1 -"), "name: 'AB1' is not pairs of hex digits, or - for none");
         assert_eq!(error("secs 010"), "message: '010' is not pairs of hex digits, or - for none");

@@ -1,13 +1,14 @@
-//! Why a tool isn't sound: the first clause of document 01's list and request P5's that doesn't hold, and where it
-//! doesn't. Whether a tool is sound is the archive's to say.
+//! Why a tool isn't sound: the first clause of document 01's list and the requests' P5 and P7 that doesn't hold, and
+//! where it doesn't. Whether a tool is sound is the archive's to say.
 use crate::fields::{out_of_range, unused};
 use crate::numbers::{movement, place, transfer, MOST_EXPECTED};
 use hawsermole::{words, Carrier, Port, Tool};
 use std::fmt;
 
+mod predictions;
 mod queue;
 
-/// A clause of document 01's list, in its order, and then of request P5's.
+/// A clause of document 01's list, in its order, and then of requests P5's and P7's.
 #[derive(Clone, Copy, Debug, PartialEq, Eq)]
 pub enum Clause {
     InRange,
@@ -24,6 +25,8 @@ pub enum Clause {
     StartedShut,
     StartedAlone,
     PortKept,
+    PredictedAtPort,
+    ReadyCompleted,
 }
 
 impl Clause {
@@ -49,6 +52,8 @@ impl Clause {
             Clause::PortKept => {
                 "the port of a CarrierOut that is started is untied, reserved and READY TO LOAD"
             }
+            Clause::PredictedAtPort => "only a carrier at a port has left WAITING FOR CARRIER",
+            Clause::ReadyCompleted => "none is PREDICTED or ABORTED with its port READY TO UNLOAD",
         }
     }
 }
@@ -71,7 +76,7 @@ impl fmt::Display for Fault {
 type Test = fn(&Tool) -> Option<String>;
 
 /// Each looks at what the ones before it have let through.
-const CLAUSES: [(Clause, Test); 14] = [
+const CLAUSES: [(Clause, Test); 16] = [
     (Clause::InRange, out_of_range),
     (Clause::UnusedZero, unused),
     (Clause::NamesDiffer, same_names),
@@ -86,6 +91,8 @@ const CLAUSES: [(Clause, Test); 14] = [
     (Clause::StartedShut, queue::not_shut),
     (Clause::StartedAlone, queue::not_alone),
     (Clause::PortKept, queue::not_kept),
+    (Clause::PredictedAtPort, predictions::left_too_early),
+    (Clause::ReadyCompleted, predictions::not_completed),
 ];
 
 /// The first clause that doesn't hold; none of a sound tool.
@@ -170,7 +177,7 @@ fn open_elsewhere(tool: &Tool) -> Option<String> {
 #[cfg(test)]
 mod tests {
     use super::*;
-    use crate::print::tests::{stored, tool};
+    use crate::print::tests::{accessed, stored, tool};
     use crate::runs::{damaged, inputs, long_run, Dice};
     use hawsermole::Input;
 
@@ -186,7 +193,7 @@ mod tests {
     fn a_clause_is_named_where_a_tool_is_not_sound() {
         let mut dice = Dice::new(1);
         let mut met = [0; CLAUSES.len() + 1];
-        for (ports, places) in [(1, 0), (2, 0), (2, 2), (2, 3), (4, 16)] {
+        for (ports, places) in [(1, 0), (2, 0), (1, 3), (2, 2), (2, 3), (4, 16)] {
             let inputs = inputs(ports, places, &[b"A", b"B", b"C", b"DD"], false);
             for tool in long_run(ports, places, &inputs, 3000, &mut dice) {
                 assert_eq!(judged(&tool), None);
@@ -333,6 +340,58 @@ mod tests {
         assert_eq!(told(&[(5, 0)]), format!("{kept} ({free})"));
         let out = "port 1 of A is OUT OF SERVICE, RESERVED, NOT ASSOCIATED";
         assert_eq!(told(&[(3, 0)]), format!("{kept} ({out})"));
+    }
+
+    /// A is IN ACCESS and PREDICTED at port 1, B is expected.
+    fn predicted() -> Tool {
+        let mut tool = accessed(60, 120);
+        for input in [
+            Input::CarrierNotification { name: b"B" },
+            Input::PredictedTime { clock: 1000, name: A, tp: 1001 },
+        ] {
+            tool.step(&input).unwrap();
+        }
+        tool
+    }
+
+    #[test]
+    fn predictions_out_of_range_are_named_with_their_bytes() {
+        let told = |changes: &[(usize, u8)]| told(&predicted(), changes);
+        let range = "not so: every field is in its range";
+        let long = "setting time 131132, not 0 to 86400 (bytes 3084 to 3087)";
+        assert_eq!(told(&[(3086, 2)]), format!("{range} ({long})"));
+        let long = "timeout 16777336, not 0 to 86400 (bytes 3088 to 3091)";
+        assert_eq!(told(&[(3091, 1)]), format!("{range} ({long})"));
+        let state = "record 2: prediction state 7, not 1 to 6 (byte 3103)";
+        assert_eq!(told(&[(3103, 7)]), format!("{range} ({state})"));
+        assert_eq!(told(&[(3094, 2)]), format!("{range} (record 1: has Te 2, not 0 to 1 (byte 3094))"));
+        let none = "record 1: a Tp though it has none (bytes 3095 to 3098)";
+        assert_eq!(told(&[(3093, 0)]), format!("{range} ({none})"));
+        let none = "record 2: a Te though it has none (bytes 3110 to 3113)";
+        assert_eq!(told(&[(3113, 1)]), format!("{range} ({none})"));
+    }
+
+    #[test]
+    fn predictions_that_disagree_are_named() {
+        let at = |tool: &Tool, changes: &[(usize, u8)]| told(tool, changes);
+        let unused = "not so: unused bytes and records are zero";
+        let no_record = format!("{unused} (byte 3114 is 2, and part of no record's prediction)");
+        assert_eq!(at(&predicted(), &[(3114, 2)]), no_record);
+        let buffer = stored(1, &[A]);
+        let none = format!("{unused} (byte 3092 is 2, and part of no record's prediction)");
+        assert_eq!(at(&buffer, &[(3092, 2)]), none);
+        assert_eq!(at(&predicted(), &[(3488, 1)]), format!("{unused} (byte 3488 is 1, and part of nothing)"));
+        let early = "not so: only a carrier at a port has left WAITING FOR CARRIER \
+                     (the prediction of B is PREDICTION COMPLETED, and it is expected)";
+        assert_eq!(at(&predicted(), &[(3103, 6)]), early);
+        // closed, and its port READY TO UNLOAD
+        let late = "not so: none is PREDICTED or ABORTED with its port READY TO UNLOAD \
+                    (the prediction of A is PREDICTED, and port 1 is READY TO UNLOAD)";
+        assert_eq!(at(&predicted(), &[(110, 0), (3, 2)]), late);
+        let times = predicted();
+        assert!(
+            at(&times, &[(110, 0), (3, 2), (3092, 5)]).contains("the prediction of A is PREDICTION ABORTED")
+        );
     }
 
     #[test]

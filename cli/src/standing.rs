@@ -6,6 +6,7 @@ use crate::numbers::{accessing, movement, place, status, tag, transfer, MOST_EXP
 use crate::people;
 use hawsermole::{words, Carrier, Name, Parts, Port, Tool};
 
+mod predictions;
 mod queue;
 
 /// The questions of a row, in its order.

@@ -1,7 +1,7 @@
 //! The causes that are named are held to the machine's answers and to the state.
 use super::*;
 use crate::print::tests::{stored, tool};
-use crate::runs::{damaged, inputs, long_run, reached, Dice};
+use crate::runs::{damaged, inputs, long_run, reached, set_up, Dice};
 use crate::script::Sent;
 use hawsermole::{Carrier, Input, Port, Request};
 
@@ -93,11 +93,11 @@ fn is_name(text: &[u8]) -> bool {
 
 /// Whether a cause of refusal 1 is so.
 fn holds_of_parts(cause: Cause, at: &Seen) -> bool {
-    let Sent { number, port, value, name, codes } = at.parts;
+    let Sent { number, port, value, name, codes, .. } = at.parts;
     match cause {
         Cause::NoTool => at.ports == 0 && !at.tool.is_sound(),
         Cause::NotSound => at.ports != 0 && !at.tool.is_sound(),
-        Cause::NoInput => !(1..=30).contains(number),
+        Cause::NoInput => !(1..=34).contains(number),
         Cause::Port => *port > at.ports || (*port == 0 && ![2, 5, 6].contains(number)),
         Cause::NothingGiven => *number == 2 && *port == 0 && name.is_empty(),
         Cause::NoBuffer => *number == 18 && at.places == 0,
@@ -218,10 +218,28 @@ fn holds_of_queue(cause: Cause, at: &Seen) -> bool {
     }
 }
 
+/// Whether a cause that speaks of a prediction or of the clock is so, by the bytes of the tool.
+fn holds_of_prediction(cause: Cause, at: &Seen) -> bool {
+    let bytes = at.tool.as_bytes();
+    let own = at.record.and_then(|record| at.carriers.iter().position(|c| c.name == record.name));
+    let start = own.map(|place| 3092 + 11 * place);
+    let state = start.filter(|_| at.places == 0).map(|start| bytes[start]);
+    let has_tp = start.map(|start| bytes[start + 1] == 1);
+    match cause {
+        Cause::PredictsNothing => at.places > 0,
+        Cause::NotAccessedYet => state == Some(2),
+        Cause::PredictionDisabled => state == Some(1),
+        Cause::PredictionPast => matches!(state, Some(4..=6)),
+        Cause::PredictedAlready => has_tp == Some(true),
+        Cause::NoPredictedTime => has_tp == Some(false),
+        Cause::ClockEarlier => u32::from_le_bytes(bytes[3080..3084].try_into().unwrap()) > at.parts.clock,
+        _ => false,
+    }
+}
+
 fn holds(cause: Cause, at: &Seen) -> bool {
-    [holds_of_parts, holds_of_names, holds_of_port, holds_of_carrier, holds_of_pod, holds_of_queue]
-        .iter()
-        .any(|of| of(cause, at))
+    let of_state = [holds_of_port, holds_of_carrier, holds_of_pod, holds_of_queue, holds_of_prediction];
+    [holds_of_parts, holds_of_names].iter().chain(&of_state).any(|of| of(cause, at))
 }
 
 /// How often each cause was named.
@@ -256,11 +274,14 @@ impl Met {
     }
 }
 
-/// All states of a fixed buffer tool with one port and two names, and some hundreds of one with a buffer place.
+/// All states of a fixed buffer tool with one port and two names, of one that predicts with one name, and some hundreds of
+/// one with a buffer place.
 fn small_tools(met: &mut Met) {
-    for (places, most) in [(0, usize::MAX), (1, 200)] {
-        let inputs = inputs(1, places, &[b"A", b"B"], false);
-        met.agree_on(&reached(1, places, &inputs, most), &inputs);
+    let (a, b): (&[u8], &[u8]) = (b"A", b"B");
+    let set_ups = [(Tool::setup(1, 0).unwrap(), usize::MAX), (set_up(1, 0), usize::MAX), (set_up(1, 1), 200)];
+    for ((tool, most), names) in set_ups.into_iter().zip([&[a, b][..], &[a], &[a, b]]) {
+        let inputs = inputs(1, tool.places().into(), names, false);
+        met.agree_on(&reached(tool, &inputs, most), &inputs);
     }
 }
 
@@ -356,7 +377,7 @@ fn numbers_without_a_row_and_tools_that_are_none() {
     let tool = Tool::setup(1, 0).unwrap();
     let mut bytes = *tool.as_bytes();
     bytes[3] = 7;
-    for number in [0, 1, 13, 31, 257, u32::MAX] {
+    for number in [0, 1, 13, 35, 257, u32::MAX] {
         let sent = Sent { number, port: 1, name: b"A".to_vec(), ..Sent::default() };
         met.agree_on(&[tool.clone(), Tool::none(), Tool::from_bytes(&bytes)], &[sent]);
     }
@@ -400,7 +421,7 @@ fn parts_out_of_range_are_named_with_their_range() {
 }
 
 fn parts(number: u32, value: u32, name: &[u8]) -> Parts<'_> {
-    Parts { number, port: 1, value, name, codes: &[] }
+    Parts { number, port: 1, value, name, ..Parts::default() }
 }
 
 fn play(tool: &mut Tool, inputs: &[Parts]) {
