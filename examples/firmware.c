@@ -69,7 +69,7 @@ static void recover(void)
     if (hm_sound(&kept)) {
         tool = kept;
         printf("    the tool is taken back from its kept copy\n");
-    } else if (hm_setup(&tool, 2, 0) == HM_ACCEPTED) {
+    } else if (hm_setup(&tool, 2, 0, 0, 0) == HM_ACCEPTED) {
         kept = tool;
         printf("    no sound tool is kept: set up anew, the host has to announce its carriers again\n");
     }

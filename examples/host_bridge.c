@@ -147,7 +147,7 @@ int main(void)
         fprintf(stderr, "the archive is of version %06x, hawsermole.h of %06x\n", (unsigned)hm_version(), HM_VERSION);
         return 1;
     }
-    if (hm_setup(&tool, 2, 0) != HM_ACCEPTED) {
+    if (hm_setup(&tool, 2, 0, 0, 0) != HM_ACCEPTED) {
         return 1;
     }
 

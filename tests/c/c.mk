@@ -7,7 +7,7 @@ SANITIZED = gcc -std=c99 $(CFLAGS_C) $(SANITIZE)
 
 SANITIZED_PROGRAMS = firmware host_bridge names secs reply waiting judge callers
 C_PROGRAMS = header-c99 header-c11 header-c++17 words-c99 words-c11 words-c++17 events-c99 events-c11 events-c++17 \
-	twelve maps queue names secs reply waiting judge firmware host_bridge callers stack
+	twelve maps queue predict names secs reply waiting judge firmware host_bridge callers stack
 
 c: cross $(C_PROGRAMS:%=target/c/%)
 	CC="$(CC)" tests/c/archive.sh $(ARCHIVE)
@@ -22,6 +22,7 @@ c: cross $(C_PROGRAMS:%=target/c/%)
 	$(EMULATOR) target/c/twelve
 	$(EMULATOR) target/c/maps
 	$(EMULATOR) target/c/queue
+	$(EMULATOR) target/c/predict
 	$(EMULATOR) target/c/names
 	$(EMULATOR) target/c/secs
 	$(EMULATOR) target/c/reply
@@ -58,8 +59,8 @@ target/c/%-c++17: tests/c/%.c $(C_FILES)
 	mkdir -p target/c
 	$(CXX) -std=c++17 $(CXXFLAGS_C) -x c++ $< -x none $(ARCHIVE) -o $@
 
-target/c/twelve target/c/maps target/c/queue target/c/names target/c/secs target/c/reply target/c/waiting \
-		target/c/judge target/c/callers \
+target/c/twelve target/c/maps target/c/queue target/c/predict target/c/names target/c/secs target/c/reply \
+		target/c/waiting target/c/judge target/c/callers \
 		target/c/stack: target/c/%: tests/c/%.c $(C_FILES)
 	mkdir -p target/c
 	$(CC) -std=c99 $(CFLAGS_C) $< $(ARCHIVE) -Wl,-z,now -o $@

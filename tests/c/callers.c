@@ -9,12 +9,12 @@
 #include "chance.h"
 #include "lend.h"
 
-#define ENOUGH 20000 /* inputs after which every row must have been accepted and every answer met */
+#define ENOUGH 50000 /* inputs after which every row must have been accepted and every answer met */
 
 static struct room tool_room, reports_room, name_room, codes_room;
 static unsigned long inputs, seed, at, failures, set_ups, unsound_tools, damaged_tools, slot_maps[HM_STATUS_FAILED + 1];
-static unsigned long answers[HM_REFUSED_QUEUED_ALREADY + 1], accepted_rows[HM_INPUTS + 1];
-static unsigned long accepted_padded, refused_texts;
+static unsigned long answers[HM_REFUSED_CLOCK_EARLIER + 1], accepted_rows[HM_INPUTS + 1];
+static unsigned long accepted_padded, refused_texts, predictions[HM_PREDICTION_COMPLETED + 1];
 static unsigned most_records, most_requests;
 
 struct outcome {
@@ -27,8 +27,9 @@ struct outcome {
 static void wrong(const struct input *in, const char *what)
 {
     failures++;
-    fprintf(stderr, "input %lu of seed %lu (number %u, port %u, value %u, name of %u, codes of %u): %s\n", at, seed,
-            in->number, in->port, in->value, in->name_length, in->codes_length, what);
+    fprintf(stderr, "input %lu of seed %lu (number %u, port %u, value %u, name of %u, codes of %u, ", at, seed,
+            in->number, in->port, in->value, in->name_length, in->codes_length);
+    fprintf(stderr, "clock %u, time %u): %s\n", in->clock, in->time, what);
     if (failures == 10) {
         exit(1);
     }
@@ -65,8 +66,11 @@ static struct outcome call(const hm_tool *tool, const struct input *in, enum pla
 
     out.sound_before = hm_sound((const hm_tool *)t.readable);
     out.name_bytes = hm_name(n.readable, in->name_length);
-    out.answer = hm_step((hm_tool *)t.writable, (hm_reports *)r.writable, in->number, in->port, in->value, n.readable,
-                         in->name_length, c.readable, in->codes_length);
+    out.answer = brings_clock(in)
+                     ? hm_time_step((hm_tool *)t.writable, (hm_reports *)r.writable, in->number, in->clock, n.readable,
+                                    in->name_length, in->time)
+                     : hm_step((hm_tool *)t.writable, (hm_reports *)r.writable, in->number, in->port, in->value,
+                               n.readable, in->name_length, c.readable, in->codes_length);
     out.sound_after = hm_sound((const hm_tool *)t.readable);
 
     memcpy(&out.tool, t.writable, sizeof out.tool);
@@ -84,7 +88,7 @@ static int well_formed(const hm_report *r, uint8_t model_before, unsigned ports)
     int subject = of_port ? r->port >= 1 && r->port <= ports && all_zero(r->name, sizeof r->name)
                           : r->port == 0 && r->name[0] != 0;
     int differs = r->old_state != r->new_state || (r->model == HM_MODEL_TIE && r->new_state == HM_TIED);
-    return r->model >= model_before && r->model <= HM_MODEL_ACCESSING && subject && differs;
+    return r->model >= model_before && r->model <= HM_MODEL_PREDICTION && subject && differs;
 }
 
 static void judge_reports(const struct input *in, const hm_reports *reports, unsigned ports)
@@ -92,8 +96,8 @@ static void judge_reports(const struct input *in, const hm_reports *reports, uns
     uint8_t model = HM_MODEL_TRANSFER;
     unsigned i;
 
-    if (reports->count > HM_REPORTS) {
-        wrong(in, "more than seven reports");
+    if (reports->count >= HM_REPORTS) {
+        wrong(in, "more than nine reports");
         return;
     }
     for (i = 0; i < reports->count; i++) {
@@ -130,7 +134,8 @@ static int needs_name(const struct input *in)
 {
     int takes = (in->number >= HM_INPUT_BIND && in->number <= HM_INPUT_CARRIER_IN) || in->number == HM_INPUT_ID_READ ||
                 (in->number >= HM_INPUT_OPEN && in->number <= HM_INPUT_CLOSE) ||
-                in->number == HM_INPUT_CANCEL_CARRIER_OUT;
+                in->number == HM_INPUT_CANCEL_CARRIER_OUT ||
+                (in->number >= HM_INPUT_PREDICTED_TIME && in->number <= HM_INPUT_NO_PREDICTION);
     return takes && !(in->number == HM_INPUT_CANCEL_BIND && in->name_length == 0);
 }
 
@@ -168,9 +173,41 @@ static void judge_queue(const hm_tool *before, const struct input *in, const hm_
     }
 }
 
+/* The clock is the input's where it brings one, and else stands; the times of the set-up stay. Without a buffer each
+   carrier has a prediction, and with one there is none. */
+static void judge_times(const hm_tool *before, const struct input *in, const hm_tool *after)
+{
+    const uint32_t was = hm_seconds(&before->clock), is = hm_seconds(&after->clock);
+    unsigned i;
+
+    if (is != (brings_clock(in) ? in->clock : was) || is < was) {
+        wrong(in, "a clock that this input doesn't leave");
+    }
+    if (memcmp(&before->setting, &after->setting, 2 * sizeof after->setting) != 0) {
+        wrong(in, "setting time or timeout changed");
+    }
+    for (i = 0; i < HM_RECORDS; i++) {
+        if ((after->predictions[i].state != 0) != (after->places == 0 && i < after->count)) {
+            wrong(in, "a prediction without a carrier, or a carrier without one");
+        }
+    }
+}
+
+/* A row has the answers that its text names. */
+static int may_answer(const struct input *in, uint32_t answer)
+{
+    switch (in->number) {
+    case HM_INPUT_CLOCK: return answer <= 1 || answer == HM_REFUSED_CLOCK_EARLIER;
+    case HM_INPUT_PREDICTED_TIME:
+    case HM_INPUT_ESTIMATE:
+    case HM_INPUT_NO_PREDICTION: return answer <= 2 || answer == 5 || answer == HM_REFUSED_CLOCK_EARLIER;
+    default: return answer != HM_REFUSED_CLOCK_EARLIER;
+    }
+}
+
 static void judge(const hm_tool *before, const struct input *in, const struct outcome *out)
 {
-    if (out->answer > HM_REFUSED_QUEUED_ALREADY || out->sound_before > 1) {
+    if (out->answer > HM_REFUSED_CLOCK_EARLIER || out->sound_before > 1 || !may_answer(in, out->answer)) {
         wrong(in, "an answer that the documents don't have");
         return;
     }
@@ -187,6 +224,7 @@ static void judge(const hm_tool *before, const struct input *in, const struct ou
         }
         judge_reports(in, &out->reports, out->tool.used);
         judge_queue(before, in, &out->tool);
+        judge_times(before, in, &out->tool);
         if (in->number == HM_INPUT_SLOT_MAP) {
             judge_slot_map(before, in, out);
         }
@@ -205,7 +243,13 @@ static void judge(const hm_tool *before, const struct input *in, const struct ou
 
 static void count(const struct input *in, const struct outcome *out)
 {
-    answers[out->answer <= HM_REFUSED_QUEUED_ALREADY ? out->answer : 1]++;
+    unsigned i;
+
+    answers[out->answer <= HM_REFUSED_CLOCK_EARLIER ? out->answer : 1]++;
+    for (i = 0; i < HM_REPORTS; i++) {
+        const hm_report *r = &out->reports.items[i];
+        predictions[r->model == HM_MODEL_PREDICTION && r->new_state <= HM_PREDICTION_COMPLETED ? r->new_state : 0]++;
+    }
     unsound_tools += out->sound_before == 0;
     if (out->answer == HM_ACCEPTED && in->number <= HM_INPUTS) {
         accepted_rows[in->number]++;
@@ -263,6 +307,9 @@ static void plain_input(hm_tool *tool, uint32_t number, uint32_t port, uint32_t 
     in.value = place;
     in.name_length = 1;
     in.name[0] = (uint8_t)('a' + place);
+    in.codes_length = number == HM_INPUT_SLOT_MAP ? HM_SLOTS : 0;
+    in.clock = hm_seconds(&tool->clock);
+    in.time = in.clock + SETTING + 1;
     at++;
     give(tool, &in);
 }
@@ -272,7 +319,7 @@ static void fill_queue(hm_tool *tool)
 {
     uint32_t place, port;
 
-    hm_setup(tool, 1 + below(HM_PORTS), HM_PLACES);
+    hm_setup(tool, 1 + below(HM_PORTS), HM_PLACES, SETTING, TIMEOUT);
     for (place = 1; place <= HM_PLACES; place++) {
         port = 1 + place % tool->used;
         plain_input(tool, HM_INPUT_LOAD_START, port, place);
@@ -285,13 +332,54 @@ static void fill_queue(hm_tool *tool)
     plain_input(tool, HM_INPUT_CARRIER_OUT, 1, 1);
 }
 
+/* A tool without a buffer, a carrier IN ACCESS at each port: the predicted time of most is told, and an estimate. */
+static void predict_all(hm_tool *tool)
+{
+    static const uint32_t visit[] = {HM_INPUT_LOAD_START, HM_INPUT_LOAD_DONE, HM_INPUT_ID_READ,
+                                     HM_INPUT_PROCEED_WITH_CARRIER, HM_INPUT_OPEN, HM_INPUT_SLOT_MAP,
+                                     HM_INPUT_PROCEED_WITH_CARRIER, HM_INPUT_ACCESS_START};
+    uint32_t port, i;
+
+    hm_setup(tool, 1 + below(HM_PORTS), 0, SETTING, TIMEOUT);
+    for (port = 1; port <= tool->used; port++) {
+        for (i = 0; i < sizeof visit / sizeof visit[0]; i++) {
+            plain_input(tool, visit[i], port, port);
+        }
+        plain_input(tool, below(4) ? HM_INPUT_PREDICTED_TIME : HM_INPUT_NO_PREDICTION, port, port);
+        plain_input(tool, HM_INPUT_ESTIMATE, port, port);
+    }
+}
+
+static void put_seconds(hm_time *to, uint32_t seconds)
+{
+    unsigned i;
+
+    for (i = 0; i < sizeof to->bytes; i++, seconds >>= 8) {
+        to->bytes[i] = (uint8_t)seconds;
+    }
+}
+
+/* Setting time or timeout: the usual one, none, the most; seldom one more than that, or any number. */
+static uint32_t some_span(uint32_t usual)
+{
+    if (below(4)) {
+        return usual;
+    }
+    if (below(8)) {
+        return below(2) ? 0 : HM_SECONDS_GREATEST;
+    }
+    return below(2) ? HM_SECONDS_GREATEST + 1 : (uint32_t)draw();
+}
+
 /* A set-up of any size; out of range it must leave all zeros. */
 static void set_up(hm_tool *tool)
 {
     static const struct input none;
     uint32_t ports = below(16) ? 1 + below(HM_PORTS) : odd_number();
-    uint32_t places = below(16) ? below(HM_PLACES + 1) : odd_number();
-    int good = ports >= 1 && ports <= HM_PORTS && places <= HM_PLACES;
+    uint32_t places = below(16) ? (below(2) ? below(HM_PLACES + 1) : 0) : odd_number();
+    uint32_t setting = some_span(SETTING), timeout = some_span(TIMEOUT);
+    int times = setting <= HM_SECONDS_GREATEST && timeout <= HM_SECONDS_GREATEST;
+    int good = ports >= 1 && ports <= HM_PORTS && places <= HM_PLACES && times;
     enum placing placing = (enum placing)below(PLACINGS);
     struct lent t;
     hm_tool expected;
@@ -302,9 +390,11 @@ static void set_up(hm_tool *tool)
         expected.used = (uint8_t)ports;
         expected.places = (uint8_t)places;
         expected.ports[i].transfer = HM_TRANSFER_READY_TO_LOAD;
+        put_seconds(&expected.setting, setting);
+        put_seconds(&expected.timeout, timeout);
     }
     t = lend(&tool_room, placing, tool, sizeof *tool);
-    if (hm_setup((hm_tool *)t.writable, ports, places) != (good ? 0u : 1u) ||
+    if (hm_setup((hm_tool *)t.writable, ports, places, setting, timeout) != (good ? 0u : 1u) ||
         memcmp(t.readable, &expected, sizeof expected) != 0 ||
         hm_sound((const hm_tool *)t.readable) != (uint32_t)good) {
         wrong(&none, "set-up");
@@ -330,13 +420,28 @@ static void damaged(const hm_tool *sound)
     }
 }
 
+/* How often each state of model 8 was reported: 0 where one never was. */
+static int print_predictions(void)
+{
+    unsigned i, all = 1;
+
+    for (i = HM_PREDICTION_DISABLED; i <= HM_PREDICTION_COMPLETED; i++) {
+        printf("%s%u: %lu", i == HM_PREDICTION_DISABLED ? "predictions " : ", ", i, predictions[i]);
+        all = all && predictions[i] > 0;
+    }
+    printf("\n");
+    return all != 0;
+}
+
 static void summary(void)
 {
     unsigned i, rows = 0, met = 0;
+    int predicted;
 
     printf("callers: %lu inputs of seed %lu, %lu set-ups, %lu damaged tools, %lu inputs to a tool that isn't sound\n",
            at, seed, set_ups, damaged_tools, unsound_tools);
-    for (i = 0; i <= HM_REFUSED_QUEUED_ALREADY; i++) {
+    predicted = print_predictions();
+    for (i = 0; i <= HM_REFUSED_CLOCK_EARLIER; i++) {
         printf("%s%u: %lu", i == 0 ? "answers " : ", ", i, answers[i]);
         met += answers[i] > 0;
     }
@@ -349,8 +454,8 @@ static void summary(void)
            slot_maps[HM_STATUS_WAITING_FOR_HOST]);
     printf("padded names accepted %lu, texts that are no name %lu, %lu failed\n", accepted_padded, refused_texts,
            failures);
-    if (inputs >= ENOUGH && (rows < HM_INPUTS || met <= HM_REFUSED_QUEUED_ALREADY || unsound_tools == 0 ||
-                             most_requests < HM_REQUESTS || slot_maps[HM_STATUS_OK] == 0 ||
+    if (inputs >= ENOUGH && (rows < HM_INPUTS || met <= HM_REFUSED_CLOCK_EARLIER || unsound_tools == 0 ||
+                             !predicted || most_requests < HM_REQUESTS || slot_maps[HM_STATUS_OK] == 0 ||
                              slot_maps[HM_STATUS_WAITING_FOR_HOST] == 0 || accepted_padded == 0 ||
                              refused_texts == 0)) {
         fprintf(stderr, "too little was met for this to mean anything\n");
@@ -378,6 +483,8 @@ int main(int argc, char **argv)
             set_up(&tool);
         } else if (below(2000) == 0) {
             fill_queue(&tool);
+        } else if (below(2000) == 0) {
+            predict_all(&tool);
         } else if (below(20) == 0) {
             damaged(&tool);
         } else {

@@ -13,9 +13,19 @@
 #define LONGEST 300 /* bytes of the longest name and of the longest codes */
 
 struct input {
-    uint32_t number, port, value, name_length, codes_length;
+    uint32_t number, port, value, name_length, codes_length, clock, time;
     uint8_t name[LONGEST], codes[LONGEST];
 };
+
+/* Whether hm_time_step takes the input, and not hm_step. */
+static inline int brings_clock(const struct input *in)
+{
+    return in->number >= HM_INPUT_CLOCK && in->number <= HM_INPUT_NO_PREDICTION;
+}
+
+/* The times of most set-ups: those of document 000's scenarios. */
+#define SETTING 60
+#define TIMEOUT 120
 
 static int filling; /* for a while the host announces carriers and cancels none, so that runs come to full tools */
 
@@ -119,6 +129,16 @@ static void fitting_codes(struct input *in, const hm_tool *tool)
     }
 }
 
+/* The clock goes on or stands, and times are around it. */
+static void fitting_times(struct input *in, const hm_tool *tool)
+{
+    uint32_t ahead = below(2 * SETTING);
+
+    in->clock = hm_seconds(&tool->clock) + (below(3) ? 0 : ahead);
+    ahead = below(2 * SETTING + TIMEOUT);
+    in->time = in->clock + ahead - SETTING;
+}
+
 static void odd_codes(struct input *in)
 {
     static const uint32_t lengths[] = {0, 1, 24, 25, 26, 255, 256, 281, LONGEST};
@@ -133,11 +153,13 @@ static void odd_codes(struct input *in)
 /* One part of the input becomes odd. */
 static void one_odd_part(struct input *in)
 {
-    switch (below(5)) {
+    switch (below(7)) {
     case 0: in->number = below(2) ? odd_number() : (uint32_t)draw(); break;
     case 1: in->port = below(2) ? odd_number() : (uint32_t)draw(); break;
     case 2: in->value = below(2) ? odd_number() : (uint32_t)draw(); break;
     case 3: odd_name(in); break;
+    case 4: in->clock = below(2) ? in->clock - 1 - below(SETTING) : (uint32_t)draw(); break;
+    case 5: in->time = below(2) ? odd_number() : (uint32_t)draw(); break;
     default: odd_codes(in); break;
     }
 }
@@ -189,12 +211,22 @@ static uint32_t number_for_carrier(const hm_carrier *carrier)
     return HM_INPUT_CARRIER_IN;
 }
 
+/* What the prediction of a carrier of this state may be waiting for, in a tool without a buffer. */
+static uint32_t number_for_prediction(const hm_carrier *carrier)
+{
+    static const uint8_t numbers[] = {31, 31, 32, 32, 33, 33, 34};
+    return carrier->accessing == HM_ACCESSING_NOT_ACCESSED ? 0u + HM_INPUT_CLOCK : numbers[below(sizeof numbers)];
+}
+
 /* An input that a carrier or a port of this tool may be waiting for, and some that none waits for. */
 static void fitting_number(struct input *in, const hm_tool *tool, const hm_carrier *carrier)
 {
     uint32_t kind = below(8);
     if (kind == 0) {
         in->number = 1 + below(HM_INPUTS);
+    } else if (kind == 4 && tool->places == 0 && carrier != NULL) {
+        known_name(in, carrier);
+        in->number = number_for_prediction(carrier);
     } else if (kind == 1 || (filling && kind == 2)) {
         in->number = HM_INPUT_CARRIER_NOTIFICATION;
     } else if (kind <= 4 && carrier != NULL) {
@@ -225,6 +257,7 @@ static void next_input(struct input *in, const hm_tool *tool)
     }
     fitting_number(in, tool, carrier);
     fitting_codes(in, tool);
+    fitting_times(in, tool);
     if (below(12) == 0) {
         one_odd_part(in);
     }
@@ -244,9 +277,10 @@ static inline void damage(hm_tool *tool)
         memset(tool, (int)below(256), sizeof *tool);
     }
     while (changes-- > 0) {
-        static const uint32_t starts[] = {0, 0, 0, offsetof(hm_tool, expected_maps), offsetof(hm_tool, queued)};
-        uint32_t part = below(5);
-        uint32_t where = starts[part] + below(part < 2 ? sizeof *tool : part == 4 ? 60 : 300);
+        static const uint32_t starts[] = {0, 0, 0, offsetof(hm_tool, expected_maps), offsetof(hm_tool, queued),
+                                          offsetof(hm_tool, clock)};
+        uint32_t part = below(6);
+        uint32_t where = starts[part] + below(part < 2 ? sizeof *tool : part >= 4 ? 60 : 300);
         ((uint8_t *)tool)[where] = (uint8_t)(below(2) ? draw() : below(6));
     }
 }

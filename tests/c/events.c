@@ -74,7 +74,7 @@ static void check_steps(void)
     hm_report odd = bound;
     hm_tool tool;
 
-    CHECK(hm_setup(&tool, 1, 0) == HM_ACCEPTED);
+    CHECK(hm_setup(&tool, 1, 0, 0, 0) == HM_ACCEPTED);
     check_step(&tool, HM_INPUT_BIND, 1, "A", 2, 17);
     check_step(&tool, HM_INPUT_LOAD_START, 1, "", 6, 3);
     check_step(&tool, HM_INPUT_LOAD_FAIL, 1, "", 10, 10);

@@ -8,7 +8,11 @@
 #include "chance.h"
 
 static void step(void);
+/* With SETTING and TIMEOUT. */
 static void set_up(uint32_t ports, uint32_t places);
+
+/* When all predicted carriers are ready; Clock brings it, and judges all at once. */
+#define READY_AT 1000
 
 static void plain_step(uint32_t number, uint32_t port, uint32_t value, uint32_t letter)
 {
@@ -19,6 +23,8 @@ static void plain_step(uint32_t number, uint32_t port, uint32_t value, uint32_t 
     memset(in.name, 'N', HM_NAME_BYTES);
     in.name[HM_NAME_BYTES - 1] = (uint8_t)('0' + letter); /* differs in the last byte alone: the longest to compare */
     fitting_codes(&in, &tool);
+    in.clock = number == HM_INPUT_CLOCK ? READY_AT : hm_seconds(&tool.clock);
+    in.time = READY_AT;
     step();
 }
 
@@ -82,6 +88,37 @@ static void free_ports(void)
     plain_step(HM_INPUT_OUT_START, 1, 0, 0);
 }
 
+/* The carrier at the port is opened, mapped and accessed; what its slot map is, the host accepts. */
+static void access_pod(uint32_t letter)
+{
+    plain_step(HM_INPUT_OPEN, 0, 0, letter);
+    plain_step(HM_INPUT_SLOT_MAP, 0, 0, letter);
+    plain_step(HM_INPUT_PROCEED_WITH_CARRIER, 0, 0, letter);
+    plain_step(HM_INPUT_ACCESS_START, 0, 0, letter);
+}
+
+/* A tool without a buffer: 16 carriers expected, and one at each port that was accessed and has a Tp, three of them
+   closed again and READY TO UNLOAD: Clock makes all four PREDICTED, and completes the three. */
+static void fill_fixed(void)
+{
+    uint32_t i;
+    set_up(HM_PORTS, 0);
+    for (i = 0; i < HM_EXPECTED; i++) {
+        plain_step(HM_INPUT_CARRIER_NOTIFICATION, 0, 0, HM_PORTS + i);
+    }
+    for (i = 0; i < HM_PORTS; i++) {
+        load(i + 1, i);
+        access_pod(i);
+    }
+    for (i = 1; i < HM_PORTS; i++) {
+        plain_step(HM_INPUT_ACCESS_END, 0, 0, i);
+        plain_step(HM_INPUT_CLOSE, 0, 0, i);
+    }
+    for (i = 0; i < HM_PORTS; i++) {
+        plain_step(HM_INPUT_PREDICTED_TIME, 0, 0, i);
+    }
+}
+
 /* Every row with every name, known and not, and every port, to this tool, which is kept in `kept_tool`. */
 static void every_row(hm_tool *kept_tool)
 {
@@ -99,9 +136,11 @@ static void every_row(hm_tool *kept_tool)
     tool = *kept_tool;
 }
 
-/* The last of the three is the full one, with a full queue. */
+/* The last of the four is the full one, with a full queue. */
 static void every_row_to_full_tools(hm_tool *kept_tool)
 {
+    fill_fixed();
+    every_row(kept_tool);
     fill();
     queue_all();
     free_one();

@@ -3,15 +3,22 @@
 
 /* A run can't tell these numbers from each other or doesn't reach them, so they are held against the documents here. */
 HM_HOLDS(limits_of_a_tool, HM_PORTS == 4 && HM_PLACES == 16 && HM_EXPECTED == 16 && HM_RECORDS == 36);
-HM_HOLDS(limits_of_an_input, HM_INPUTS == 30 && HM_SLOTS == 25 && HM_REPORTS == 7 && HM_NAME_BYTES == 16);
+HM_HOLDS(limits_of_an_input, HM_INPUTS == 34 && HM_SLOTS == 25 && HM_REPORTS == 10 && HM_NAME_BYTES == 16);
 HM_HOLDS(records_at_once, HM_RECORDS == HM_EXPECTED + HM_PLACES + HM_PORTS);
 HM_HOLDS(bytes_of_a_name, HM_NAME_BYTE_LEAST == 0x21 && HM_NAME_BYTE_GREATEST == 0x7E);
 HM_HOLDS(bytes_of_a_text, HM_TEXT_BYTES == 32 && HM_BLANK == 0x20 && HM_BLANK < HM_NAME_BYTE_LEAST);
 HM_HOLDS(models_of_ports, HM_MODEL_TRANSFER == 1 && HM_MODEL_ACCESS == 2 && HM_MODEL_RESERVATION == 3);
 HM_HOLDS(last_model_of_ports, HM_MODEL_TIE == 4);
 HM_HOLDS(models_of_carriers, HM_MODEL_ID == 5 && HM_MODEL_SLOT == 6 && HM_MODEL_ACCESSING == 7);
+HM_HOLDS(last_model_of_carriers, HM_MODEL_PREDICTION == 8);
 HM_HOLDS(ends, HM_INPUT_BIND == 1 && HM_INPUT_UNLOAD_FAIL == 26 && HM_REFUSED_PLACE_OR_OPENER_TAKEN == 8);
-HM_HOLDS(inputs_of_the_queue, HM_INPUT_OUT_START == 27 && HM_INPUT_CANCEL_ALL_CARRIER_OUT == HM_INPUTS);
+HM_HOLDS(inputs_of_the_queue, HM_INPUT_OUT_START == 27 && HM_INPUT_CANCEL_ALL_CARRIER_OUT == 30);
+HM_HOLDS(inputs_with_a_clock, HM_INPUT_CLOCK == 31 && HM_INPUT_PREDICTED_TIME == 32 && HM_INPUT_ESTIMATE == 33);
+HM_HOLDS(last_input, HM_INPUT_NO_PREDICTION == HM_INPUTS && HM_REFUSED_CLOCK_EARLIER == 11);
+HM_HOLDS(states_before_tp, HM_PREDICTION_DISABLED == 1 && HM_PREDICTION_WAITING_FOR_CARRIER == 2);
+HM_HOLDS(states_with_tp, HM_PREDICTION_WAITING_FOR_PREDICTION == 3 && HM_PREDICTION_PREDICTED == 4);
+HM_HOLDS(states_after_tp, HM_PREDICTION_ABORTED == 5 && HM_PREDICTION_COMPLETED == 6);
+HM_HOLDS(a_day, HM_SECONDS_GREATEST == 24 * 60 * 60);
 HM_HOLDS(the_queue, HM_REQUESTS == 16 && HM_REFUSED_QUEUE_FULL == 9 && HM_REFUSED_QUEUED_ALREADY == 10);
 HM_HOLDS(codes, HM_CODE_UNDEFINED == 0 && HM_CODE_EMPTY == 1 && HM_CODE_NOT_EMPTY == 2);
 HM_HOLDS(more_codes, HM_CODE_CORRECTLY_OCCUPIED == 3 && HM_CODE_DOUBLE_SLOTTED == 4 && HM_CODE_CROSS_SLOTTED == 5);
@@ -25,7 +32,9 @@ HM_HOLDS(refusals_of_a_log, HM_REFUSED_MARK_OR_VERSION == 27 && HM_REFUSED_SET_U
 HM_HOLDS(verdicts, HM_LOG_AGREES == 0 && HM_LOG_ENTRY_DISAGREES == 1 && HM_REFUSED_LOG_CUT_SHORT == 29);
 HM_HOLDS(bytes_of_document_01, HM_TOOL_01_BYTES == 1891);
 HM_HOLDS(bytes_of_a_tool, HM_TOOL_BYTES == 2 * 1891);
-HM_HOLDS(bytes_to_spare, HM_SPARE_BYTES == 1891 - HM_RECORDS * HM_SLOTS - 1 - HM_REQUESTS * sizeof(hm_request));
+HM_HOLDS(bytes_to_spare, HM_SPARE_BYTES == 1891 - HM_RECORDS * HM_SLOTS - 1 - HM_REQUESTS * sizeof(hm_request) -
+                                             3 * sizeof(hm_time) - HM_RECORDS * sizeof(hm_prediction));
+HM_HOLDS(bytes_of_reports, HM_REPORTS_BYTES == 1 + HM_REPORTS * sizeof(hm_report));
 
 static hm_tool tool;
 static hm_reports reports;
@@ -37,11 +46,15 @@ static const hm_carrier *const first = &tool.carriers[0];
 
 static void set_up(void)
 {
+    const uint32_t most = HM_SECONDS_GREATEST;
+
     CHECK(hm_version() == HM_VERSION && hm_tool_size() == sizeof tool && hm_reports_size() == sizeof reports);
-    CHECK(hm_setup(&tool, HM_PORTS + 1, 0) == HM_REFUSED_OUT_OF_RANGE && !hm_sound(&tool) && tool.used == 0);
-    CHECK(hm_setup(&tool, 1, HM_PLACES + 1) == HM_REFUSED_OUT_OF_RANGE && !hm_sound(&tool));
+    CHECK(hm_setup(&tool, HM_PORTS + 1, 0, 0, 0) == HM_REFUSED_OUT_OF_RANGE && !hm_sound(&tool) && tool.used == 0);
+    CHECK(hm_setup(&tool, 1, HM_PLACES + 1, 0, 0) == HM_REFUSED_OUT_OF_RANGE && !hm_sound(&tool));
+    CHECK(hm_setup(&tool, 1, 0, most + 1, most) == HM_REFUSED_OUT_OF_RANGE && !hm_sound(&tool) && tool.used == 0);
+    CHECK(hm_setup(&tool, 1, 0, most, most + 1) == HM_REFUSED_OUT_OF_RANGE && !hm_sound(&tool));
     CHECK(GIVE(HM_INPUT_LOAD_START, 1, 0, "") == HM_REFUSED_OUT_OF_RANGE);
-    CHECK(hm_setup(&tool, HM_PORTS, HM_PLACES) == HM_ACCEPTED && hm_sound(&tool) == 1);
+    CHECK(hm_setup(&tool, HM_PORTS, HM_PLACES, 0, 0) == HM_ACCEPTED && hm_sound(&tool) == 1);
     CHECK(tool.used == HM_PORTS && tool.places == HM_PLACES && tool.count == 0);
     CHECK(one->transfer == HM_TRANSFER_READY_TO_LOAD && one->access == HM_ACCESS_MANUAL);
     CHECK(one->reserved == HM_NOT_RESERVED && is_name(one->tie, "") && one->movement == HM_MOVEMENT_NONE);
@@ -226,7 +239,7 @@ static void refusals(void)
     char name[2] = "a";
     unsigned i;
 
-    CHECK(hm_setup(&tool, 2, 1) == HM_ACCEPTED);
+    CHECK(hm_setup(&tool, 2, 1, 0, 0) == HM_ACCEPTED);
     CHECK(GIVE(HM_INPUT_LOAD_START, 3, 0, "") == HM_REFUSED_OUT_OF_RANGE);
     CHECK(GIVE(HM_INPUT_OPEN, 0, 0, "Z") == HM_REFUSED_NO_RECORD);
     for (i = 0; i < HM_EXPECTED; i++, name[0]++) {
@@ -248,6 +261,42 @@ static void refusals(void)
     CHECK(GIVE(HM_INPUT_MOVE_IN, 1, 1, "") == HM_REFUSED_PLACE_OR_OPENER_TAKEN && reports.count == 0);
 }
 
+#define TIMED(number, clock, name, time) \
+    hm_time_step(&tool, &reports, (number), (clock), BYTES(name), strlen(name), (time))
+
+/* A fixed buffer tool: the carrier is predicted, late, and away. */
+static void predictions(void)
+{
+    static const uint8_t codes[HM_SLOTS] = {HM_CODE_EMPTY};
+    const hm_prediction *const own = &tool.predictions[0];
+
+    CHECK(hm_setup(&tool, 1, 0, 60, HM_SECONDS_GREATEST) == HM_ACCEPTED && hm_seconds(&tool.clock) == 0);
+    CHECK(hm_seconds(&tool.setting) == 60 && hm_seconds(&tool.timeout) == 86400);
+    ACCEPTED(HM_INPUT_LOAD_START, 1, 0, "");
+    ACCEPTED(HM_INPUT_LOAD_DONE, 1, 0, "");
+    ACCEPTED(HM_INPUT_ID_READ, 1, 0, "A");
+    CHECK(own->state == HM_PREDICTION_WAITING_FOR_CARRIER && own->has_predicted == 0 && own->has_estimate == 0);
+    CHECK(reports.count == 5 && reports.items[4].model == HM_MODEL_PREDICTION && is_name(reports.items[4].name, "A"));
+    ACCEPTED(HM_INPUT_PROCEED_WITH_CARRIER, 1, 0, "A");
+    ACCEPTED(HM_INPUT_OPEN, 0, 0, "A");
+    CHECK(hm_step(&tool, &reports, HM_INPUT_SLOT_MAP, 0, 0, BYTES("A"), 1, codes, HM_SLOTS) == HM_ACCEPTED);
+    ACCEPTED(HM_INPUT_PROCEED_WITH_CARRIER, 1, 0, "A");
+    ACCEPTED(HM_INPUT_ACCESS_START, 0, 0, "A");
+    CHECK(own->state == HM_PREDICTION_WAITING_FOR_PREDICTION);
+    CHECK(TIMED(HM_INPUT_PREDICTED_TIME, 0x01020304, "A", 0x05060708) == HM_ACCEPTED && reports.count == 0);
+    CHECK(own->has_predicted == 1 && hm_seconds(&own->predicted) == 0x05060708);
+    CHECK(hm_seconds(&tool.clock) == 0x01020304 && tool.clock.bytes[0] == 4 && tool.clock.bytes[3] == 1);
+    CHECK(TIMED(HM_INPUT_CLOCK, 0x01020303, "", 0) == HM_REFUSED_CLOCK_EARLIER);
+    CHECK(TIMED(HM_INPUT_CLOCK, 0x05060708 - 60, "", 0) == HM_ACCEPTED && own->state == HM_PREDICTION_PREDICTED);
+    CHECK(TIMED(HM_INPUT_ESTIMATE, 0x05060708, "A ", 0x05060708 + 86400) == HM_ACCEPTED);
+    CHECK(own->has_estimate == 1 && hm_seconds(&own->estimate) == 0x05060708 + 86400);
+    CHECK(own->state == HM_PREDICTION_ABORTED && reports.count == 1);
+    CHECK(TIMED(HM_INPUT_NO_PREDICTION, 0x05060708, "A", 0) == HM_REFUSED_CONDITIONS);
+    ACCEPTED(HM_INPUT_ACCESS_END, 0, HM_ACCESS_END_COMPLETE, "A");
+    ACCEPTED(HM_INPUT_CLOSE, 0, 0, "A");
+    CHECK(own->state == HM_PREDICTION_COMPLETED && reports.count == 2 && reports.items[1].old_state == 5);
+}
+
 int main(void)
 {
     set_up();
@@ -264,5 +313,6 @@ int main(void)
     replies();
     logs();
     refusals();
+    predictions();
     return result("header");
 }

@@ -159,6 +159,23 @@ static void no_queue(void)
     CHECK(tool.ports[0].transfer == HM_TRANSFER_READY_TO_UNLOAD && tool.carriers[0].came_out == 1);
 }
 
+/* Nor predictions: 31 and 34 are no inputs, and a record that is made or goes has no report of model 8, which would have
+   a port in a log. */
+static void no_predictions(void)
+{
+    static const uint8_t told[] = {
+        'C', 'M', 'T', 0, 1, 1, 0,
+        HM_INPUT_CARRIER_NOTIFICATION, 0, 0, 1, 'A', 0, 3, 5, 1, 'A', 0, 1, 6, 1, 'A', 0, 1, 7, 1, 'A', 0, 1,
+        HM_INPUT_CLOCK, 0, 0, 0, HM_REFUSED_OUT_OF_RANGE, 0,
+        HM_INPUT_NO_PREDICTION, 0, 0, 1, 'A', HM_REFUSED_OUT_OF_RANGE, 0,
+        HM_INPUT_CANCEL_CARRIER_NOTIFICATION, 0, 0, 1, 'A', 0, 1, HM_MODEL_PREDICTION, 1, 2, 0,
+    };
+    const size_t last = sizeof told - 11;
+
+    CHECK(is_judged(told, last, HM_LOG_AGREES, 3, last, HM_REFUSED_OUT_OF_RANGE));
+    CHECK(is_judged(told, sizeof told, HM_LOG_ENTRY_DISAGREES, 3, last, HM_ACCEPTED));
+}
+
 static size_t entry_of(size_t at)
 {
     size_t entry = 0;
@@ -210,6 +227,7 @@ int main(void)
     what_is_left();
     no_request();
     no_queue();
+    no_predictions();
     cut_at_every_place();
     changed_at_every_place();
     return result("judge");

@@ -95,7 +95,8 @@ struct line {
     uint32_t answer;
 };
 
-/* On a tool of two ports and two places; every row is accepted once at least. */
+/* On a tool of two ports and two places; every row is accepted once at least, but for those of predictions, which are
+   for tools without a buffer. */
 static const struct line run[] = {
     {HM_INPUT_BIND, 1, 0, "LOT-A", 0}, {HM_INPUT_BIND, 2, 0, "LOT-A", 3},
     {HM_INPUT_CANCEL_BIND, 1, 0, "LOT-B", 2}, {HM_INPUT_CANCEL_BIND, 0, 0, "LOT-A", 0},
@@ -123,7 +124,9 @@ static const struct line run[] = {
     {HM_INPUT_LOAD_DONE, 2, 0, "", 0}, {HM_INPUT_ID_READ, 2, 0, "LOT-EFGHIJKLMNOP", 0},
     {HM_INPUT_PROCEED_WITH_CARRIER, 2, 0, "LOT-EFGHIJKLMNOP", 0}, {HM_INPUT_LOAD_START, 1, 0, "", 0},
     {HM_INPUT_LOAD_DONE, 1, 0, "", 0}, {HM_INPUT_ID_READ_FAILED, 1, 0, "", 0},
-    {HM_INPUT_CANCEL_CARRIER, 1, 0, "LOT-C", 0}};
+    {HM_INPUT_CANCEL_CARRIER, 1, 0, "LOT-C", 0}, {HM_INPUT_CLOCK, 0, 0, "", 0},
+    {HM_INPUT_PREDICTED_TIME, 0, 0, "LOT-C", 5}, {HM_INPUT_ESTIMATE, 0, 0, "LOT-C", 5},
+    {HM_INPUT_NO_PREDICTION, 0, 0, "LOT-C", 5}};
 
 #define LINES (sizeof run / sizeof run[0])
 
@@ -151,7 +154,7 @@ static void same_with_blanks(size_t blanks)
     uint32_t rows = 0;
     size_t i, length;
 
-    CHECK(hm_setup(&tool, 2, 2) == HM_ACCEPTED && hm_setup(&padded, 2, 2) == HM_ACCEPTED);
+    CHECK(hm_setup(&tool, 2, 2, 0, 0) == HM_ACCEPTED && hm_setup(&padded, 2, 2, 0, 0) == HM_ACCEPTED);
     for (i = 0; i < LINES; i++) {
         length = strlen(run[i].name);
         memset(text, HM_BLANK, sizeof text);
@@ -162,7 +165,7 @@ static void same_with_blanks(size_t blanks)
         CHECK(memcmp(&tool, &padded, sizeof tool) == 0 && memcmp(&reports, &told, sizeof told) == 0);
         rows |= run[i].answer == HM_ACCEPTED ? 1u << (run[i].number - 1) : 0u;
     }
-    CHECK(rows == (1u << HM_INPUTS) - 1 && is_name(tool.carriers[0].name, "LOT-EFGHIJKLMNOP"));
+    CHECK(rows == (1u << HM_INPUT_CLOCK) - 1 && is_name(tool.carriers[0].name, "LOT-EFGHIJKLMNOP"));
 }
 
 #define TEXT(bytes) {bytes, sizeof bytes - 1}
@@ -185,7 +188,7 @@ static void refused_texts(void)
     uint32_t answer;
     size_t i, k;
 
-    CHECK(hm_setup(&tool, 2, 2) == HM_ACCEPTED);
+    CHECK(hm_setup(&tool, 2, 2, 0, 0) == HM_ACCEPTED);
     for (i = 0; i < LINES; i++) {
         hm_tool before = tool;
         CHECK(give_line(&tool, &reports, &run[i], (const uint8_t *)run[i].name, strlen(run[i].name)) == run[i].answer);
@@ -212,7 +215,8 @@ static void blanks_are_not_missing(void)
     size_t length;
 
     memset(text, HM_BLANK, sizeof text);
-    CHECK(hm_setup(&tool, 2, 0) == HM_ACCEPTED && give(&tool, &reports, HM_INPUT_BIND, 1, 0, "LOT-A") == HM_ACCEPTED);
+    CHECK(hm_setup(&tool, 2, 0, 0, 0) == HM_ACCEPTED);
+    CHECK(give(&tool, &reports, HM_INPUT_BIND, 1, 0, "LOT-A") == HM_ACCEPTED);
     for (length = 1; length <= sizeof text; length++) {
         CHECK(give_line(&tool, &reports, &cancel, text, length) == HM_REFUSED_OUT_OF_RANGE && tool.count == 1);
         CHECK(give_line(&tool, &reports, &cancel_nothing, text, length) == HM_REFUSED_OUT_OF_RANGE);

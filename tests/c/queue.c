@@ -58,7 +58,7 @@ static void store(const char *name, uint32_t place)
 /* Two ports, both empty, and A, B and C in the buffer. */
 static void three_inside(void)
 {
-    CHECK(hm_setup(&tool, 2, 4) == HM_ACCEPTED);
+    CHECK(hm_setup(&tool, 2, 4, 0, 0) == HM_ACCEPTED);
     store("A", 1);
     store("B", 2);
     store("C", 3);
@@ -121,7 +121,7 @@ static void sixteen_fill_the_queue(void)
     char name[2] = "a";
     uint8_t i;
 
-    CHECK(hm_setup(&tool, HM_PORTS, HM_PLACES) == HM_ACCEPTED);
+    CHECK(hm_setup(&tool, HM_PORTS, HM_PLACES, 0, 0) == HM_ACCEPTED);
     for (i = 0; i < HM_PLACES; i++, name[0]++) {
         store(name, i + 1u);
     }
@@ -371,7 +371,7 @@ static void a_tied_port_is_not_kept(void)
     CHECK(hm_sound(&tool) == 0);
 }
 
-/* Each byte of the queue and after it with each value: sound are what was there, another port and another carrier. */
+/* Each byte of the queue with each value: sound are what was there, another port and another carrier. */
 static void every_byte_of_the_queue(void)
 {
     size_t at;
@@ -379,11 +379,11 @@ static void every_byte_of_the_queue(void)
 
     three_inside();
     ACCEPTED(HM_INPUT_CARRIER_OUT, 1, "A");
-    for (at = QUEUE_AT(queued) * 256u; at < sizeof tool * 256u; at++) {
+    for (at = QUEUE_AT(queued) * 256u; at < offsetof(hm_tool, clock) * 256u; at++) {
         sound += sound_with(at / 256, (uint8_t)(at % 256)) ? 1u : 0u;
     }
     /* The port may be the other, the name B or C, and the request can't be started: port 1 isn't reserved. */
-    CHECK(sound == (sizeof tool - QUEUE_AT(queued)) + 3);
+    CHECK(sound == (offsetof(hm_tool, clock) - QUEUE_AT(queued)) + 3);
 }
 
 int main(void)

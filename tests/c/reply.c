@@ -237,11 +237,11 @@ static void whole_way(void)
     uint32_t i;
 
     chance_state = 13;
-    CHECK(hm_setup(&tool, HM_PORTS, HM_PLACES) == HM_ACCEPTED);
+    CHECK(hm_setup(&tool, HM_PORTS, HM_PLACES, 0, 0) == HM_ACCEPTED);
     for (i = 0; i < MESSAGES; i++) {
         if (below(400) == 0) {
-            hm_setup(&tool, 1 + below(HM_PORTS + 1), below(HM_PLACES + 2));
-        } else if (below(400) == 0) {
+            hm_setup(&tool, 1 + below(HM_PORTS + 1), below(HM_PLACES + 2), SETTING, TIMEOUT);
+        } else if (below(800) == 0) {
             ((uint8_t *)&tool)[below(sizeof tool)] ^= 0x55;
         }
         next_input(&in, &tool);

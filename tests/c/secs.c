@@ -72,7 +72,7 @@ static int is_refused(const uint8_t *bytes, size_t length, uint32_t refusal, uin
 /* Port 1 free, at port 2 CD waits for the host, AE is expected. */
 static void set_up(void)
 {
-    CHECK(hm_setup(&tool, 2, 0) == HM_ACCEPTED);
+    CHECK(hm_setup(&tool, 2, 0, 0, 0) == HM_ACCEPTED);
     CHECK(give(&tool, &reports, HM_INPUT_CARRIER_NOTIFICATION, 0, 0, "AE") == HM_ACCEPTED);
     CHECK(give(&tool, &reports, HM_INPUT_LOAD_START, 2, 0, "") == HM_ACCEPTED);
     CHECK(give(&tool, &reports, HM_INPUT_LOAD_DONE, 2, 0, "") == HM_ACCEPTED);

@@ -23,6 +23,7 @@ struct painted {
 };
 
 static struct painted for_step = {"hm_step", NULL, NULL};
+static struct painted for_time_step = {"hm_time_step", NULL, NULL};
 static struct painted for_setup = {"hm_setup", NULL, NULL};
 static struct painted for_sound = {"hm_sound", NULL, NULL};
 static struct painted for_name = {"hm_name", NULL, NULL};
@@ -45,7 +46,7 @@ static size_t log_length;
 static void (*after_step)(void); /* what is done with each step */
 static unsigned long agreed, disagreed;
 static unsigned long accepted, refused, removed, removed_from_full, most_records, at_once, bridged, unread;
-static unsigned long replied;
+static unsigned long replied, most_reports;
 
 #include "full.h"
 
@@ -73,10 +74,16 @@ static void call_step(void)
     answer = hm_step(&tool, &reports, in.number, in.port, in.value, in.name, in.name_length, in.codes, in.codes_length);
 }
 
+static void call_time_step(void)
+{
+    for_time_step.frame = (const char *)__builtin_frame_address(0);
+    answer = hm_time_step(&tool, &reports, in.number, in.clock, in.name, in.name_length, in.time);
+}
+
 static void call_setup(void)
 {
     for_setup.frame = (const char *)__builtin_frame_address(0);
-    answer = hm_setup(&tool, in.port, in.value);
+    answer = hm_setup(&tool, in.port, in.value, SETTING, TIMEOUT);
 }
 
 static void call_sound(void)
@@ -162,7 +169,12 @@ static void set_up(uint32_t ports, uint32_t places)
 static void step(void)
 {
     unsigned before = tool.count;
-    run_on(&for_step, call_step);
+    if (brings_clock(&in)) {
+        run_on(&for_time_step, call_time_step);
+    } else {
+        run_on(&for_step, call_step);
+    }
+    most_reports = reports.count > most_reports ? reports.count : most_reports;
     at_once += answer == HM_ACCEPTED && in.number == HM_INPUT_SLOT_MAP && reports.items[0].new_state == HM_STATUS_OK;
     accepted += answer == HM_ACCEPTED;
     refused += answer != HM_ACCEPTED;
@@ -313,6 +325,7 @@ int main(int argc, char **argv)
     int failed = 0;
 
     prepare(&for_step);
+    prepare(&for_time_step);
     prepare(&for_setup);
     prepare(&for_sound);
     prepare(&for_name);
@@ -327,6 +340,7 @@ int main(int argc, char **argv)
     judged_rows(&full);
     by_chance(&full, argc > 1 ? strtoul(argv[1], NULL, 10) : 50000);
     failed += figure(&for_step);
+    failed += figure(&for_time_step);
     failed += figure(&for_setup);
     failed += figure(&for_sound);
     failed += figure(&for_name);
@@ -340,9 +354,11 @@ int main(int argc, char **argv)
            accepted, refused, removed, removed_from_full, most_records);
     printf("%lu slot maps OK at once, %lu messages accepted, %lu too deep, %lu accepted with a reply, ", at_once,
            bridged, unread, replied);
+    printf("most reports %lu, ", most_reports);
     printf("%lu logs that agree, %lu that don't\n", agreed, disagreed);
     if (accepted == 0 || refused == 0 || removed_from_full == 0 || most_records != HM_RECORDS || at_once == 0 ||
-        bridged == 0 || unread == 0 || replied != bridged || agreed == 0 || disagreed == 0) {
+        bridged == 0 || unread == 0 || replied != bridged || most_reports != HM_REPORTS - 1 || agreed == 0 ||
+        disagreed == 0) {
         fprintf(stderr, "too little was met for this to mean anything\n");
         failed++;
     }

@@ -1,4 +1,7 @@
-/* Document 01's run to check by hand, through the C interface: every answer and every byte of the reports. */
+/*
+ * Document 01's run to check by hand, through the C interface: every answer and every byte of the reports. Model 8 is
+ * request P7's: the tool has no buffer. Its setting time is 0, so that nothing is predicted.
+ */
 #include "check.h"
 
 struct row {
@@ -10,21 +13,21 @@ struct row {
 };
 
 static const struct row rows[] = {
-    {1, 1, "AB", 0, 0, "3 1 0>1; 4 1 0>1; 5 AB 0>1; 6 AB 0>1; 7 AB 0>1"},
+    {1, 1, "AB", 0, 0, "3 1 0>1; 4 1 0>1; 5 AB 0>1; 6 AB 0>1; 7 AB 0>1; 8 AB 0>2"},
     {13, 1, "", 0, 0, "1 1 1>3; 3 1 1>0"},
     {14, 1, "", 0, 0, "none"},
-    {16, 1, "AC", 0, 0, "4 1 1>1; 5 AB 1>0; 5 AC 0>2; 6 AB 1>0; 6 AC 0>1; 7 AB 1>0; 7 AC 0>1"},
+    {16, 1, "AC", 0, 0, "4 1 1>1; 5 AB 1>0; 5 AC 0>2; 6 AB 1>0; 6 AC 0>1; 7 AB 1>0; 7 AC 0>1; 8 AB 2>0; 8 AC 0>2"},
     {19, 0, "AC", 0, 7, "none"},
     {5, 0, "AC", 0, 0, "5 AC 2>3"},
     {19, 0, "AC", 0, 0, "none"},
     {20, 0, "AC", 25, 0, "6 AC 1>2"},
     {21, 0, "AC", 0, 7, "none"},
     {5, 0, "AC", 0, 0, "6 AC 2>3"},
-    {21, 0, "AC", 0, 0, "7 AC 1>2"},
+    {21, 0, "AC", 0, 0, "7 AC 1>2; 8 AC 2>1"},
     {6, 0, "AC", 0, 5, "none"},
 };
 
-/* The reports that a text of document 01 stands for, all 141 bytes. */
+/* The reports that a text of document 01 stands for, all 201 bytes. */
 static hm_reports reports_of(const char *text)
 {
     hm_reports out;
@@ -72,8 +75,8 @@ int main(void)
     hm_tool tool;
     size_t i;
 
-    CHECK(reports_of(rows[3].reports).count == HM_REPORTS); /* the texts are read to their ends */
-    CHECK(hm_setup(&tool, 2, 0) == 0);
+    CHECK(reports_of(rows[3].reports).count == HM_REPORTS - 1); /* the texts are read to their ends */
+    CHECK(hm_setup(&tool, 2, 0, 0, 0) == 0);
     for (i = 0; i < sizeof rows / sizeof rows[0]; i++) {
         play(&tool, &rows[i]);
     }

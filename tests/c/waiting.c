@@ -122,7 +122,7 @@ static void a_tool(void)
     hm_found found;
     size_t i;
 
-    CHECK(hm_setup(&tool, 1, 0) == HM_ACCEPTED);
+    CHECK(hm_setup(&tool, 1, 0, 0, 0) == HM_ACCEPTED);
     CHECK(hm_waiting(tool.carriers, tool.count, &found) == 0 && found.position == 0 && found.read == 0);
     for (i = 0; i < sizeof run / sizeof run[0]; i++) {
         const char *name = run[i].name;

@@ -20,10 +20,10 @@ static void print_all(void)
 
     print("answer", hm_answer_text, 0, 27);
     print("verdict", hm_verdict_text, 0, 30);
-    print("input", hm_input_text, 0, 31);
-    print("model", hm_model_text, 0, 8);
-    for (model = HM_MODEL_TRANSFER; model <= HM_MODEL_ACCESSING; model++) {
-        for (state = 0; state <= 5; state++) {
+    print("input", hm_input_text, 0, 35);
+    print("model", hm_model_text, 0, 9);
+    for (model = HM_MODEL_TRANSFER; model <= HM_MODEL_PREDICTION; model++) {
+        for (state = 0; state <= 7; state++) {
             printf("state %u %u: %s\n", model, state, hm_state_text(model, state));
         }
     }
@@ -51,7 +51,7 @@ static void carriers_by_name(void)
     static hm_reports reports;
     static const char full[] = "SIXTEEN-BYTES-16", almost[] = "SIXTEEN-BYTES-1", padded[] = "AB      ";
 
-    CHECK(hm_setup(&tool, 1, 0) == HM_ACCEPTED && hm_find(&tool, BYTES("AB"), 2) == NULL);
+    CHECK(hm_setup(&tool, 1, 0, 0, 0) == HM_ACCEPTED && hm_find(&tool, BYTES("AB"), 2) == NULL);
     CHECK(give(&tool, &reports, HM_INPUT_CARRIER_NOTIFICATION, 0, 0, "A") == HM_ACCEPTED);
     CHECK(give(&tool, &reports, HM_INPUT_CARRIER_NOTIFICATION, 0, 0, full) == HM_ACCEPTED);
     CHECK(give(&tool, &reports, HM_INPUT_CARRIER_NOTIFICATION, 0, 0, padded) == HM_ACCEPTED);
@@ -62,9 +62,17 @@ static void carriers_by_name(void)
     CHECK(hm_find(&tool, tool.carriers[2].name, 2) == &tool.carriers[2]);
     CHECK(hm_find(&tool, BYTES("B"), 1) == NULL && hm_find(&tool, BYTES("ABC"), 3) == NULL);
     CHECK(hm_find(&tool, HM_NOTHING, 0) == NULL && hm_find(&tool, BYTES(" A"), 2) == NULL);
+    CHECK(hm_find_prediction(&tool, BYTES(padded), 8) == &tool.predictions[2]);
+    CHECK(hm_find_prediction(&tool, BYTES(almost), 15) == NULL);
+    CHECK(hm_find_prediction(&tool, BYTES(full), 16)->state == HM_PREDICTION_WAITING_FOR_CARRIER);
     /* A damaged count is followed no further than the table. */
     tool.count = 255;
     CHECK(hm_find(&tool, BYTES("ABC"), 3) == NULL && hm_find(&tool, BYTES("A"), 1) == &tool.carriers[0]);
+    CHECK(hm_find_prediction(&tool, BYTES("ABC"), 3) == NULL);
+    /* A tool with a buffer predicts nothing. */
+    CHECK(hm_setup(&tool, 1, 1, 60, 120) == HM_ACCEPTED);
+    CHECK(give(&tool, &reports, HM_INPUT_CARRIER_NOTIFICATION, 0, 0, "A") == HM_ACCEPTED);
+    CHECK(hm_find(&tool, BYTES("A"), 1) != NULL && hm_find_prediction(&tool, BYTES("A"), 1) == NULL);
 }
 
 int main(void)
