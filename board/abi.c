@@ -132,14 +132,47 @@ static void inputs_of_every_length(hm_tool *tool, hm_reports *reports)
         for (count = 0; count <= sizeof codes; count++) {
             int good = bytes >= 1 && bytes <= HM_NAME_BYTES && (count == 0 || count == HM_SLOTS);
             uint32_t answer;
-            check(hm_setup(tool, 1, 0) == HM_ACCEPTED, "set up");
+            check(hm_setup(tool, 1, 0, SETTING, TIMEOUT) == HM_ACCEPTED, "set up");
             garbage();
             answer = hm_step(tool, reports, HM_INPUT_CARRIER_NOTIFICATION, 1, 0, name, bytes, codes, count);
             check(answer == (good ? 0u : 1u), "a name and codes of the right length, and no other");
-            check(tool->count == (good ? 1 : 0) && reports->count == (good ? 3 : 0), "a record and three reports");
+            check(tool->count == (good ? 1 : 0) && reports->count == (good ? 4 : 0), "a record and four reports");
             check(!good || (memcmp(tool->carriers[0].name, name, bytes) == 0), "the name as it was given");
         }
     }
+}
+
+/* A time after a length of 64 bits and one before it, of an accepted input, with names of every length. */
+static void times_of_every_length(hm_tool *tool, hm_reports *reports)
+{
+    static const uint8_t visit[] = {HM_INPUT_LOAD_START, HM_INPUT_LOAD_DONE, HM_INPUT_ID_READ,
+                                    HM_INPUT_PROCEED_WITH_CARRIER, HM_INPUT_OPEN, HM_INPUT_SLOT_MAP,
+                                    HM_INPUT_PROCEED_WITH_CARRIER, HM_INPUT_ACCESS_START};
+    static const uint8_t codes[HM_SLOTS] = {HM_CODE_EMPTY};
+    const uint32_t clock = 0x01020304, time = 0xF5060708;
+    uint8_t name[HM_NAME_BYTES], bytes, i;
+
+    memset(name, 'T', sizeof name);
+    for (bytes = 1; bytes <= sizeof name; bytes++) {
+        check(hm_setup(tool, 1, 0, SETTING, TIMEOUT) == HM_ACCEPTED, "set up");
+        for (i = 0; i < sizeof visit; i++) {
+            check(hm_step(tool, reports, visit[i], 1, 0, name, bytes, codes, HM_SLOTS) == HM_ACCEPTED, "a visit");
+        }
+        check(hm_seconds(&tool->setting) == SETTING && hm_seconds(&tool->timeout) == TIMEOUT, "the set-up's times");
+        garbage();
+        check(hm_time_step(tool, reports, HM_INPUT_PREDICTED_TIME, clock, name, bytes, time) == HM_ACCEPTED, "a Tp");
+        check(hm_seconds(&tool->clock) == clock && hm_seconds(&tool->predictions[0].predicted) == time, "both times");
+        garbage();
+        check(hm_time_step(tool, reports, HM_INPUT_CLOCK, clock - 1, name, bytes, time) == HM_REFUSED_CLOCK_EARLIER,
+              "an earlier clock");
+    }
+}
+
+static uint32_t give(hm_tool *tool, hm_reports *reports, const uint8_t *name, const uint8_t *codes)
+{
+    return brings_clock(&in)
+               ? hm_time_step(tool, reports, in.number, in.clock, name, in.name_length, in.time)
+               : hm_step(tool, reports, in.number, in.port, in.value, name, in.name_length, codes, in.codes_length);
 }
 
 /* What a call is lent, at any distance from a multiple of eight. */
@@ -153,16 +186,15 @@ static void at_distance(uint32_t distance, hm_tool *tool, hm_reports *reports)
 {
     hm_tool *odd_tool = (hm_tool *)(void *)(tool_room + distance);
     hm_reports *odd_reports = (hm_reports *)(void *)(reports_room + distance);
-    const uint8_t *name = name_room + distance, *codes = codes_room + distance;
     uint32_t answer, items, odd_items;
 
     memcpy(odd_tool, tool, sizeof *tool);
     memcpy(name_room + distance, in.name, in.name_length);
     memcpy(codes_room + distance, in.codes, in.codes_length);
     memcpy(message_room + distance, sent.bytes, sent.length);
-    answer = hm_step(tool, reports, in.number, in.port, in.value, in.name, in.name_length, in.codes, in.codes_length);
-    check(answer == hm_step(odd_tool, odd_reports, in.number, in.port, in.value, name, in.name_length, codes,
-                            in.codes_length), "the same answer at every alignment");
+    answer = give(tool, reports, in.name, in.codes);
+    check(answer == give(odd_tool, odd_reports, name_room + distance, codes_room + distance),
+          "the same answer at every alignment");
     check(memcmp(odd_reports, reports, sizeof *reports) == 0, "the same reports at every alignment");
     answer = hm_secs_step(tool, reports, sent.bytes, sent.length, &items);
     check(answer == hm_secs_step(odd_tool, odd_reports, message_room + distance, sent.length, &odd_items),
@@ -174,8 +206,10 @@ static void at_distance(uint32_t distance, hm_tool *tool, hm_reports *reports)
 static void every_alignment(hm_tool *tool, hm_reports *reports)
 {
     uint32_t k;
-    check(hm_setup(tool, HM_PORTS, HM_PLACES) == HM_ACCEPTED, "set up");
     for (k = 0; k < 1200; k++) {
+        if (k % 600 == 0) { /* with a buffer, and without one */
+            check(hm_setup(tool, HM_PORTS, k == 0 ? HM_PLACES : 0, SETTING, TIMEOUT) == HM_ACCEPTED, "set up");
+        }
         next_input(&in, tool);
         next_message(&sent, &in);
         at_distance(k % 4, tool, reports);
@@ -199,6 +233,7 @@ int main(void)
     names();
     waiting_tables(tool.carriers);
     inputs_of_every_length(&tool, &reports);
+    times_of_every_length(&tool, &reports);
     cut_messages(&tool, &reports);
     check(hm_tool_size() == sizeof tool && hm_reports_size() == sizeof reports, "sizes");
     every_alignment(&tool, &reports);

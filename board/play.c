@@ -28,7 +28,7 @@ static hm_tool kept; /* a sound tool, while a damaged copy of it is played; befo
 static hm_reports reports WORDS_APART;
 static struct message message WORDS_APART;
 static hm_found found;
-static uint32_t answer, items, ports, places;
+static uint32_t answer, items, ports, places, setting, timeout;
 static uint64_t stopped;
 
 static struct digest given, answered, reported, held;
@@ -40,12 +40,17 @@ static uint32_t answers[HM_REFUSED_SHAPE_OR_ACTION + 1], accepted_rows[HM_INPUTS
 
 CALLER caller_of_hm_setup(void)
 {
-    answer = hm_setup(&tool, ports, places);
+    answer = hm_setup(&tool, ports, places, setting, timeout);
 }
 
 CALLER caller_of_hm_step(void)
 {
     answer = hm_step(&tool, &reports, in.number, in.port, in.value, in.name, in.name_length, in.codes, in.codes_length);
+}
+
+CALLER caller_of_hm_time_step(void)
+{
+    answer = hm_time_step(&tool, &reports, in.number, in.clock, in.name, in.name_length, in.time);
 }
 
 CALLER caller_of_hm_secs_step(void)
@@ -78,6 +83,7 @@ static struct function {
     void (*call)(void);
     uint32_t calls, stack;
 } functions[] = {{"hm_step", caller_of_hm_step, 0, 0},
+                 {"hm_time_step", caller_of_hm_time_step, 0, 0},
                  {"hm_secs_step", caller_of_hm_secs_step, 0, 0},
                  {"hm_sound", caller_of_hm_sound, 0, 0},
                  {"hm_secs_at", caller_of_hm_secs_at, 0, 0},
@@ -87,7 +93,7 @@ static struct function {
 
 #define FUNCTIONS (sizeof functions / sizeof functions[0])
 
-enum { STEP, SECS_STEP, SOUND, SECS_AT, SETUP, WAITING, NAME };
+enum { STEP, TIME_STEP, SECS_STEP, SOUND, SECS_AT, SETUP, WAITING, NAME };
 
 /* Calls the function; the answer goes into the digest. */
 static void run(struct function *f)
@@ -114,15 +120,24 @@ static void note(void)
     add_all(&held, &tool, sizeof tool);
 }
 
+static void set_up_with(uint32_t setting_wanted, uint32_t timeout_wanted)
+{
+    setting = setting_wanted;
+    timeout = timeout_wanted;
+    set_ups++;
+    add(&given, ports);
+    add(&given, places);
+    add(&given, setting);
+    add(&given, timeout);
+    run(&functions[SETUP]);
+    add_all(&held, &tool, sizeof tool);
+}
+
 static void set_up(uint32_t ports_wanted, uint32_t places_wanted)
 {
     ports = ports_wanted;
     places = places_wanted;
-    set_ups++;
-    add(&given, ports);
-    add(&given, places);
-    run(&functions[SETUP]);
-    add_all(&held, &tool, sizeof tool);
+    set_up_with(SETTING, TIMEOUT);
 }
 
 static void add_input(void)
@@ -130,6 +145,8 @@ static void add_input(void)
     add(&given, in.number);
     add(&given, in.port);
     add(&given, in.value);
+    add(&given, in.clock);
+    add(&given, in.time);
     add_all(&given, in.name, in.name_length);
     add_all(&given, in.codes, in.codes_length);
 }
@@ -140,7 +157,7 @@ static void step(void)
     inputs++;
     add_input();
     memset(&reports, 0xA5, sizeof reports); /* what stood there before must be gone */
-    run(&functions[STEP]);
+    run(&functions[brings_clock(&in) ? TIME_STEP : STEP]);
     accepted_rows[answer == HM_ACCEPTED && in.number <= HM_INPUTS ? in.number : 0]++;
     note();
 }
@@ -199,8 +216,10 @@ static void next_tool(void)
         damaged_tools++;
         damage(&tool);
     } else if (below(tool.used == 0 ? 10 : 500) == 0) {
-        uint32_t wanted = below(16) ? 1 + below(HM_PORTS) : odd_number();
-        set_up(wanted, below(16) ? below(HM_PLACES + 1) : odd_number());
+        uint32_t wanted = below(8) ? SETTING : below(2) ? 0 : HM_SECONDS_GREATEST + below(2);
+        ports = below(16) ? 1 + below(HM_PORTS) : odd_number();
+        places = below(2) ? 0 : below(16) ? below(HM_PLACES + 1) : odd_number();
+        set_up_with(wanted, below(8) ? TIMEOUT : 0);
     }
 }
 
@@ -252,7 +271,7 @@ static int print_answers(void)
     uint32_t i, all = 1;
 
     for (i = 0; i <= HM_REFUSED_SHAPE_OR_ACTION; i++) {
-        if (i <= HM_REFUSED_QUEUED_ALREADY || i >= HM_REFUSED_CUT_SHORT) {
+        if (i <= HM_REFUSED_CLOCK_EARLIER || i >= HM_REFUSED_CUT_SHORT) {
             put_words(i == 0 ? "answers " : ", ");
             put_number(i);
             put_words(": ");
