@@ -223,7 +223,8 @@ queues() {
     { cat "$work/printed"; echo 'save 3782'; } | want 0
     { cat "$work/stored"; echo "save $saved"; } | play
     outcome "save of a queue"
-    printf 'load sound\n0  3 1 0>1\nport 1 1 0 1 - 0 0 0\nrec 41 2 1 0 0 0 0 - 3 1 1\nout 41 1 1\nend\n' | want 0
+    printf 'load sound\n0  3 1 0>1\nport 1 1 0 1 - 0 0 0\nrec 41 2 1 0 0 0 0 - 3 1 1\nout 41 1 1\ntime 0 0 0\nend\n' |
+        want 0
     {
         echo "load $saved"
         printf 'OutStart 1\nexpect 0 3 1 0>1\ndump\nexpect port 1 ..\nexpect rec ..\nexpect out 41 1 1\n'
@@ -234,6 +235,29 @@ queues() {
     printf 'load unsound, not so: %s\n1  none\n' "$range" | want 0
     { echo "load $work/damaged"; echo CancelAllCarrierOut; } | play
     outcome "load of a damaged queue"
+}
+
+# So are times and predictions: the clock goes on from where it was.
+predictions() {
+    saved=$work/predicted
+    printf 'setup 1 0 60 120\nLoadStart 1\nLoadDone 1\nIdRead 1 A\nProceedWithCarrier A 0\nOpen A\n' >"$work/visit"
+    printf 'SlotMap A 3333333333333333333333333\nProceedWithCarrier A 0\nAccessStart A\nPredictedTime 900 A 1000\n' \
+        >>"$work/visit"
+    hawsermole "$work/visit" >"$work/printed"
+    { cat "$work/printed"; echo 'save 3782'; } | want 0
+    { cat "$work/visit"; echo "save $saved"; } | play
+    outcome "save of a prediction"
+    printf 'load sound\n11  none\n0  8 A 3>4\nundo Clock 940\n0  none\n' | want 0
+    {
+        echo "load $saved"
+        printf 'Clock 899\nexpect 11 none\nClock 940\nexpect 0 8 A 3>4\nundo\nClock 939\nexpect 0 none\n'
+    } | play --check
+    outcome "load of a prediction, with what is expected"
+    { head -c 3092 "$saved"; printf '\007'; tail -c +3094 "$saved"; } >"$work/damaged"
+    range='every field is in its range (record 1: prediction state 7, not 1 to 6 (byte 3092))'
+    printf 'load unsound, not so: %s\n1  none\n' "$range" | want 0
+    { echo "load $work/damaged"; echo 'Clock 940'; } | play
+    outcome "load of a damaged prediction"
 }
 
 # A script is a test: status 1 where a line that expects isn't met, or none expects.
@@ -301,6 +325,7 @@ unreadable
 slips
 files
 queues
+predictions
 checks
 wrong_calls
 logs
