@@ -23,6 +23,7 @@ fn first_thing(refusal: Refusal) -> &'static str {
         Refusal::PlaceOrOpenerTaken => "MoveIn: another place. Open: close the one that is open",
         Refusal::QueueFull => "nothing: it is one of the 16 that are queued",
         Refusal::QueuedAlready => "nothing; for another port CancelCarrierOut first",
+        Refusal::ClockEarlier => "send the time as it is; a clock set back: go on from the last accepted",
         Refusal::RoomTooSmall => "lend 95 bytes of room, and take the message again",
         Refusal::CutShort => "bytes lost, or a length that is too large",
         Refusal::UnknownCode => "JIS-8, or another text format",
@@ -36,7 +37,7 @@ fn first_thing(refusal: Refusal) -> &'static str {
 
 /// A state's word without what its model says already: `OK` of `ID VERIFICATION OK`.
 fn short(word: &str) -> String {
-    let word = ["ID ", "SLOT MAP ", "CARRIER ", "VERIFICATION "]
+    let word = ["ID ", "SLOT MAP ", "CARRIER ", "VERIFICATION ", "PREDICTION "]
         .into_iter()
         .fold(word, |word, start| word.strip_prefix(start).unwrap_or(word));
     word.replace("no state", "no record")
@@ -44,7 +45,7 @@ fn short(word: &str) -> String {
 
 fn model_line(model: Model) -> String {
     let subject = if model <= Model::Tie { "port" } else { "carrier" };
-    let states: Vec<String> = (0..=4)
+    let states: Vec<String> = (0..=6)
         .filter(|&state| hawsermole::states::State::of(model, state).is_some())
         .map(|state| format!("{state}\u{a0}{}", short(model.state(state))))
         .collect();
@@ -103,10 +104,12 @@ mod tests {
             "\n| 7 accessing status | carrier | 0 no record, 1 NOT ACCESSED, 2 IN ACCESS, 3 COMPLETE, 4 STOPPED | 7 |",
             "Movement: 0 idle, 1 loading, 2 unloading.",
             "\n| 10 | CarrierOut is queued already | nothing;",
-            "26 UnloadFail, 27 OutStart, 28 OutDone, 29 CancelCarrierOut, 30 CancelAllCarrierOut.",
+            "\n| 8 ready to unload prediction status | carrier | 0 no record, 1 DISABLED, 2 WAITING FOR CARRIER, ",
+            "\n| 11 | the clock is earlier than the last accepted |",
+            "30 CancelAllCarrierOut, 31 Clock, 32 PredictedTime, 33 Estimate, 34 NoPrediction.",
         ] {
             assert!(card.contains(part), "{part}\n{card}");
         }
-        assert_eq!(card.lines().filter(|line| line.starts_with("| ")).count(), 1 + 18 + 1 + 7);
+        assert_eq!(card.lines().filter(|line| line.starts_with("| ")).count(), 1 + 19 + 1 + 8);
     }
 }

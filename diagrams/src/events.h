@@ -1,7 +1,7 @@
 /*
  * From a report to SEMI E87-0312: the numbered transitions that the report of an accepted input stands for, and those
- * of them that want a collection event. Made from docs/events.tsv by `make diagrams`; docs/EVENTS.md says how to read
- * it.
+ * of them that want a collection event. Those of model 8 are document 000's, which revises E87-0921. Made from
+ * docs/events.tsv by `make diagrams`; docs/EVENTS.md says how to read it.
  */
 #ifndef HAWSERMOLE_EVENTS_H
 #define HAWSERMOLE_EVENTS_H

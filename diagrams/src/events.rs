@@ -20,20 +20,21 @@ pub struct Line {
 }
 
 /// Transitions of the standard's tables that no report shows, and why.
-pub const UNSEEN: [(u8, &[u8], &str); 5] = [
+pub const UNSEEN: [(u8, &[u8], &str); 6] = [
     (5, &[1], "set-up gives READY TO LOAD, and no report (N11)"),
     (
         7,
         &[10, 11],
         "there is no reader that is out of service or missing: the equipment sends IdReadFailed (N39)",
     ),
+    (7, &[22], "document 000 has #23 to #29 of it, which are model 8's"),
     (9, &[1], "set-up gives MANUAL, and no report (N45)"),
     (10, &[1], "set-up gives NOT RESERVED; no event is required"),
     (11, &[1], "set-up gives NOT ASSOCIATED; no event is required"),
 ];
 
-/// How many transitions each table has.
-pub const TABLES: [(u8, u8); 5] = [(5, 10), (7, 21), (9, 3), (10, 3), (11, 4)];
+/// How many transitions each table has; Table 7 with those of document 000, which revises E87-0921.
+pub const TABLES: [(u8, u8); 5] = [(5, 10), (7, 29), (9, 3), (10, 3), (11, 4)];
 
 /// Reads the table; `Err` tells the line that can't be read.
 pub fn read(text: &str) -> Result<Vec<Line>, String> {

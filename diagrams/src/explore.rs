@@ -4,7 +4,8 @@
 //! The search is complete within its bounds: all runs, of any length, of the tools in [`SETUPS`] with inputs made
 //! of the ports of the tool (and 0), the names in [`NAMES`] (and none), every buffer place, both values of every
 //! choice, one expected map (and none), and one slot map, which equals it. A tool that was met before isn't followed
-//! again, so the search ends by itself.
+//! again, so the search ends by itself. Nothing is predicted in these tools: a second search has [`TIMES`], and meets
+//! what becomes of predictions.
 use crate::subject::{request_of, Subject};
 use hawsermole::{Argument, Input, Model, Parts, Reports, Row, Tool, ROWS, TOOL_BYTES};
 use std::collections::{BTreeMap, BTreeSet, HashSet, VecDeque};
@@ -13,6 +14,23 @@ use std::collections::{BTreeMap, BTreeSet, HashSet, VecDeque};
 /// announced. More ports, places and names add tools but no transition; `diagrams --wide` sees to that.
 pub const SETUPS: [(u32, u32); 2] = [(1, 0), (1, 1)];
 pub const NAMES: [&[u8]; 2] = [b"A", b"B"];
+
+/// Clocks and times of a search, and the set-up's setting time and timeout.
+#[derive(Clone, Copy)]
+pub struct Times {
+    pub setting: u32,
+    pub timeout: u32,
+    pub clocks: &'static [u32],
+    pub tp: &'static [u32],
+    pub te: &'static [u32],
+}
+
+/// No clock goes on, and nothing is predicted.
+const STILL: Times = Times { setting: 0, timeout: 0, clocks: &[0], tp: &[0], te: &[0] };
+
+/// Of two predicted times one is near at first, and one is near at 3 and late at 6, where nothing is estimated; of two
+/// estimates one is always late, and one never. So each is PREDICTED and ABORTED by every input that can do it.
+pub const TIMES: Times = Times { setting: 1, timeout: 2, clocks: &[0, 3, 6], tp: &[1, 4], te: &[1, 9] };
 
 const NO_NAME: &[u8] = b"";
 const NO_MAP: &[u8] = b"";
@@ -64,15 +82,54 @@ pub fn explore() -> Found {
     for (ports, places) in SETUPS {
         explore_from(ports, places, &NAMES, &mut found);
     }
+    explore_predictions(&NAMES[..1], &mut found);
     found
 }
 
 /// Searches the runs of one set-up.
 pub fn explore_from(ports: u32, places: u32, names: &[&[u8]], found: &mut Found) {
-    let start = Tool::setup(ports, places).expect("the bounds are a tool's");
+    let start = start(ports, places, &STILL);
     found.first.extend(start.ports().flat_map(states_at));
     found.first.extend(names.iter().map(|name| (Subject::Request, request_of(&start, name))));
-    let tools = each_step(ports, places, names, |step| {
+    search(start, &inputs(ports, places, names, &STILL), names, found);
+}
+
+/// Searches the runs of a tool that predicts: all of those with one port; and with two, where an input for one carrier
+/// judges the other too, what follows when both are IN ACCESS.
+pub fn explore_predictions(names: &[&[u8]], found: &mut Found) {
+    search(start(1, 0, &TIMES), &inputs(1, 0, names, &TIMES), names, found);
+    let mut two = start(2, 0, &TIMES);
+    for (port, name) in (1..).zip(NAMES) {
+        visit(port, name).iter().for_each(|input| assert!(two.step(input).is_ok(), "{input}"));
+    }
+    let mut inputs = inputs(2, 0, &NAMES, &TIMES);
+    inputs.retain(|input| [22, 23].contains(&input.number()) || input.number() > 30);
+    search(two, &inputs, &NAMES, found);
+}
+
+fn start(ports: u32, places: u32, times: &Times) -> Tool {
+    let Times { setting, timeout, .. } = *times;
+    Tool::setup_with_times(ports, places, setting, timeout).expect("the bounds are a tool's")
+}
+
+/// A carrier comes to a port, and its wafers are accessed.
+fn visit(port: u32, name: &[u8]) -> [Input<'_>; 8] {
+    [
+        Input::LoadStart { port },
+        Input::LoadDone { port },
+        Input::IdRead { port, name },
+        Input::ProceedWithCarrier { name, port },
+        Input::Open { name },
+        Input::SlotMap { name, codes: MAP },
+        Input::ProceedWithCarrier { name, port },
+        Input::AccessStart { name },
+    ]
+}
+
+/// Notes what each step from a tool brings.
+fn search(start: Tool, inputs: &[Input], names: &[&[u8]], found: &mut Found) {
+    let places = start.places();
+    let tools = each_step_from(start, inputs, |step| {
         let cause = cause(step.after, step.input);
         let requests: Vec<Edge> = names.iter().filter_map(|name| of_request(&step, name)).collect();
         let reported = step.reports.into_iter().map(|report| {
@@ -91,13 +148,15 @@ fn of_request(step: &Step, name: &[u8]) -> Option<Edge> {
 }
 
 /// Calls with each accepted input to each tool that is reached, breadth first. Gives the number of tools.
-pub fn each_step(ports: u32, places: u32, names: &[&[u8]], mut call: impl FnMut(Step<'_>)) -> usize {
-    let inputs = inputs(ports, places, names);
-    let start = Tool::setup(ports, places).expect("the bounds are a tool's");
+pub fn each_step(ports: u32, places: u32, names: &[&[u8]], call: impl FnMut(Step<'_>)) -> usize {
+    each_step_from(start(ports, places, &STILL), &inputs(ports, places, names, &STILL), call)
+}
+
+fn each_step_from(start: Tool, inputs: &[Input], mut call: impl FnMut(Step<'_>)) -> usize {
     let mut met: HashSet<[u8; TOOL_BYTES]> = HashSet::from([*start.as_bytes()]);
     let mut waiting = VecDeque::from([start]);
     while let Some(tool) = waiting.pop_front() {
-        for input in &inputs {
+        for input in inputs {
             let mut next = tool.clone();
             let Ok(reports) = next.step(input) else { continue };
             call(Step { before: &tool, after: &next, input, reports });
@@ -120,7 +179,7 @@ fn states_at(port: hawsermole::Port) -> [(Subject, u8); 4] {
 }
 
 impl Found {
-    fn note(&mut self, edge: Edge, cause: Cause, places: u32) {
+    fn note(&mut self, edge: Edge, cause: Cause, places: u8) {
         let kinds = self.edges.entry(edge).or_default().entry(cause).or_default();
         match places {
             0 => kinds.fixed = true,
@@ -146,16 +205,31 @@ pub fn choice(row: &Row) -> Option<Argument> {
 }
 
 /// Every input within the bounds.
-fn inputs<'a>(ports: u32, places: u32, names: &[&'a [u8]]) -> Vec<Input<'a>> {
+fn inputs<'a>(ports: u32, places: u32, names: &[&'a [u8]], times: &Times) -> Vec<Input<'a>> {
     let of_row = |row: &Row| {
         let mut all = vec![Parts { number: row.number, ..Parts::default() }];
         for &argument in row.arguments {
-            all = all.iter().flat_map(|parts| with(parts, argument, ports, places, names)).collect();
+            let each = |parts: &Parts<'a>| match of_time(parts, argument, times) {
+                Some(timed) => timed,
+                None => with(parts, argument, ports, places, names),
+            };
+            all = all.iter().flat_map(each).collect();
         }
         all
     };
     let parts = ROWS.iter().flat_map(of_row);
     parts.map(|parts| Input::from_parts(&parts).expect("the number is a row's")).collect()
+}
+
+/// The input with each clock or time; none where the argument is another.
+fn of_time<'a>(parts: &Parts<'a>, argument: Argument, times: &Times) -> Option<Vec<Parts<'a>>> {
+    let time = |&time: &u32| Parts { time, ..*parts };
+    match argument {
+        Argument::Clock => Some(times.clocks.iter().map(|&clock| Parts { clock, ..*parts }).collect()),
+        Argument::Tp => Some(times.tp.iter().map(time).collect()),
+        Argument::Te => Some(times.te.iter().map(time).collect()),
+        _ => None,
+    }
 }
 
 /// The input with each value that one of its arguments may have.
@@ -180,5 +254,6 @@ fn with<'a>(
         Argument::Place => (1..=places).map(value).collect(),
         Argument::Codes => vec![codes(MAP)],
         Argument::MapOrNone => [NO_MAP, MAP].map(codes).into(),
+        Argument::Clock | Argument::Tp | Argument::Te => vec![*parts],
     }
 }

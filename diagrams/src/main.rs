@@ -1,7 +1,7 @@
 //! `diagrams DIR` writes the pictures; `diagrams --check DIR` compares them with those that are there.
 #![forbid(unsafe_code)]
 
-use diagrams::explore::{explore, explore_from, Found, NAMES};
+use diagrams::explore::{explore, explore_from, explore_predictions, Found, NAMES};
 use diagrams::walk::walk;
 use diagrams::{made, pictures};
 use hawsermole::EVENTS;
@@ -132,6 +132,7 @@ fn wide() -> Result<(), String> {
         explore_from(ports, places, names, &mut found);
         println!("ports {ports}, places {places}, names {}: {} tools so far", names.len(), found.tools);
     }
+    explore_predictions(&NAMES, &mut found);
     match list(&found) == narrow {
         true => say("diagrams: nothing else\n"),
         false => Err(format!("the wider search found\n{}and the pictures have\n{narrow}", list(&found))),

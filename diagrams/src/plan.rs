@@ -54,7 +54,7 @@ fn words_found(subject: Subject, found: &Found) -> Words {
 /// 0 is a state of a port or a request, and "no state" of a carrier.
 fn node(subject: Subject, state: u8) -> Node {
     match subject {
-        Subject::Model(Model::Id | Model::Slot | Model::Accessing) if state == 0 => Node::NoRecord,
+        Subject::Model(model) if model > Model::Tie && state == 0 => Node::NoRecord,
         _ => Node::State(state),
     }
 }

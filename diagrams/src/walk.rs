@@ -1,6 +1,9 @@
 //! Plays a script of the command line and writes it as a table: each input, its answer and its reports,
 //! and what stands after it.
-use hawsermole::{words, Argument, Carrier, Input, Parts, Port, Refusal, Reports, Request, Row, Tool};
+use hawsermole::states::PredictionState;
+use hawsermole::{
+    words, Argument, Carrier, Input, Parts, Port, Prediction, Refusal, Reports, Request, Row, Tool,
+};
 
 /// A script's steps as rows of a Markdown table.
 pub fn walk(script: &str) -> Result<Vec<String>, String> {
@@ -12,15 +15,22 @@ pub fn walk(script: &str) -> Result<Vec<String>, String> {
         match words[..] {
             [] | ["dump"] => {}
             [first, ..] if first.starts_with('#') => {}
-            ["setup", ports, places] => {
-                let size = |word: &str| word.parse().map_err(|_| told("not a set-up".into()));
-                tool =
-                    Tool::setup(size(ports)?, size(places)?).map_err(|refusal| told(refusal.to_string()))?;
-            }
+            ["setup", ref numbers @ ..] => tool = set_up(numbers).map_err(told)?,
             _ => rows.push(step(&mut tool, &words).map_err(told)?),
         }
     }
     Ok(rows)
+}
+
+/// Ports and places, and setting time and timeout, which may be left out.
+fn set_up(numbers: &[&str]) -> Result<Tool, String> {
+    let numbers: Result<Vec<u32>, _> = numbers.iter().map(|word| word.parse()).collect();
+    let (ports, places, setting, timeout) = match numbers.as_deref() {
+        Ok(&[ports, places]) => (ports, places, 0, 0),
+        Ok(&[ports, places, setting, timeout]) => (ports, places, setting, timeout),
+        _ => return Err("not a set-up".into()),
+    };
+    Tool::setup_with_times(ports, places, setting, timeout).map_err(|refusal| refusal.to_string())
 }
 
 /// An answer and its reports as the command line prints them.
@@ -60,13 +70,16 @@ fn read<'a>(words: &[&'a str], codes: &'a [u8]) -> Option<Input<'a>> {
             Argument::Port | Argument::PortOrNone => parts.port = word.parse().ok()?,
             Argument::Name | Argument::NameOrNone => parts.name = word.as_bytes(),
             Argument::Codes | Argument::MapOrNone => parts.codes = codes,
+            Argument::Clock => parts.clock = word.parse().ok()?,
+            Argument::Tp | Argument::Te => parts.time = word.parse().ok()?,
             _ => parts.value = word.parse().ok()?,
         }
     }
     Input::from_parts(&parts)
 }
 
-/// Each port and carrier that isn't as it was, in full, and the queue for CarrierOut.
+/// Each port and carrier that isn't as it was, in full, the queue for CarrierOut, the clock, and each prediction that has
+/// left WAITING FOR CARRIER.
 fn changes(before: &Tool, after: &Tool) -> String {
     let old = |carrier: &Carrier| before.carriers().any(|old| old == *carrier);
     let ports = after.ports().zip(before.ports()).filter(|(now, then)| now != then).map(|(now, _)| port(now));
@@ -74,7 +87,12 @@ fn changes(before: &Tool, after: &Tool) -> String {
     let stays = |gone: &Carrier| after.carriers().any(|now| now.name == gone.name);
     let gone = before.carriers().filter(|then| !stays(then)).map(|then| format!("{}: no record", then.name));
     let queue = (!after.requests().eq(before.requests())).then(|| queue(after));
-    let all: Vec<String> = ports.chain(carriers).chain(gone).chain(queue).collect();
+    let clock = (before.clock() != after.clock()).then(|| format!("clock {}", after.clock()));
+    let waits = PredictionState::WaitingForCarrier.number();
+    let new = |now: &Prediction| before.prediction(now.name.as_bytes()) != Some(*now) && now.state != waits;
+    let predictions = after.predictions().filter(new).map(prediction);
+    let all: Vec<String> =
+        ports.chain(carriers).chain(gone).chain(queue).chain(clock).chain(predictions).collect();
     match all.is_empty() {
         true => "as before".into(),
         false => all.join("<br>"),
@@ -90,6 +108,11 @@ fn queue(tool: &Tool) -> String {
         true => "queue: empty".into(),
         false => format!("queue: {}", requests.join("; ")),
     }
+}
+
+fn prediction(Prediction { name, state, tp, te }: Prediction) -> String {
+    let time = |what, time: Option<u32>| time.map_or(String::new(), |time| format!(", {what} {time}"));
+    format!("{name}: {}{}{}", words::prediction(state), time("Tp", tp), time("Te", te))
 }
 
 fn port(port: Port) -> String {
@@ -193,6 +216,18 @@ mod tests {
     }
 
     #[test]
+    fn times_are_told() {
+        let visit = "LoadStart 1\nLoadDone 1\nIdRead 1 A\nProceedWithCarrier A 1\nOpen A\n\
+                     SlotMap A 3333333333333333333333333\nProceedWithCarrier A 1\nAccessStart A\n";
+        let rows = walk(&format!("setup 1 0 60 120\n{visit}PredictedTime 9 A 99\nClock 9\n")).unwrap();
+        let started = "A: at port 1, open, ID 3, slot 3, accessing 2<br>A: WAITING FOR PREDICTION |";
+        assert!(rows[7].ends_with(started), "{}", rows[7]);
+        let predicted =
+            "| PredictedTime(9, A, 99) | `0  none` | clock 9<br>A: WAITING FOR PREDICTION, Tp 99 |";
+        assert_eq!(rows[8..], [predicted, "| Clock(9) | `0  none` | as before |"]);
+    }
+
+    #[test]
     fn what_goes_is_told() {
         let rows = walk("setup 1 0\nCarrierNotification AB\nCancelCarrierNotification AB\n").unwrap();
         assert!(rows[0].ends_with("| AB: expected, closed, ID 1, slot 1, accessing 1 |"), "{}", rows[0]);
@@ -204,5 +239,6 @@ mod tests {
         assert_eq!(walk("setup 1 0\nFrobnicate 1").unwrap_err(), "line 2: not an input by name");
         assert_eq!(walk("setup 1 0\n\nBind 1").unwrap_err(), "line 3: not an input by name");
         assert!(walk("setup 9 0").unwrap_err().starts_with("line 1: a port, place"));
+        assert_eq!(walk("setup 1 0 60").unwrap_err(), "line 1: not a set-up");
     }
 }

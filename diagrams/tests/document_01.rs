@@ -1,7 +1,8 @@
-//! What the search finds is what document 01's rows say, row by row, row 20 with the expected map of request P1 and
-//! rows 7 and 27 to 30 with the queue of request P5, and nothing else.
+//! What the search finds is what document 01's rows say, row by row, row 20 with the expected map of request P1, rows 7
+//! and 27 to 30 with the queue of request P5, and model 8 and rows 31 to 34 of request P7, and nothing else.
 use diagrams::explore::{explore, Found, Kinds};
 use diagrams::subject::Subject;
+use hawsermole::Model;
 use std::collections::{BTreeMap, BTreeSet};
 use std::sync::LazyLock;
 
@@ -9,13 +10,17 @@ static FOUND: LazyLock<Found> = LazyLock::new(explore);
 
 /// The changes that each row brings to a tool that runs reach, as `model old>new`, those of a request as `out old>new`;
 /// rows that bring none are left out (LoadDone, Open).
-const ROWS: [(u32, &str); 28] = [
-    (1, "3 0>1, 4 0>1, 5 0>1, 6 0>1, 7 0>1"),
-    (2, "3 1>0, 4 1>0, 5 1>0, 6 1>0, 7 1>0"),
-    (3, "5 0>1, 6 0>1, 7 0>1"),
-    (4, "5 1>0, 6 1>0, 7 1>0"),
-    (5, "4 0>1, 5 0>3, 5 1>3, 5 2>3, 6 0>1, 6 2>3, 7 0>1"),
-    (6, "1 3>2, 4 0>1, 5 0>4, 5 1>4, 5 2>4, 6 0>1, 6 2>4, 7 0>1, out 1>0"),
+const ROWS: [(u32, &str); 32] = [
+    (1, "3 0>1, 4 0>1, 5 0>1, 6 0>1, 7 0>1, 8 0>2"),
+    (2, "3 1>0, 4 1>0, 5 1>0, 6 1>0, 7 1>0, 8 2>0"),
+    (3, "5 0>1, 6 0>1, 7 0>1, 8 0>2"),
+    (4, "5 1>0, 6 1>0, 7 1>0, 8 2>0"),
+    (5, "4 0>1, 5 0>3, 5 1>3, 5 2>3, 6 0>1, 6 2>3, 7 0>1, 8 0>2"),
+    (
+        6,
+        "1 3>2, 4 0>1, 5 0>4, 5 1>4, 5 2>4, 6 0>1, 6 2>4, 7 0>1, \
+         8 0>2, 8 2>1, 8 2>3, 8 3>4, 8 4>6, 8 5>6, out 1>0",
+    ),
     (7, "out 0>1"),
     (8, "1 2>3"),
     (9, "2 0>1, 2 1>0"),
@@ -24,21 +29,32 @@ const ROWS: [(u32, &str); 28] = [
     (12, "3 1>0"),
     (13, "1 1>3, 3 1>0"),
     (15, "1 3>1"),
-    (16, "4 0>1, 4 1>1, 5 0>2, 5 1>0, 5 1>2, 5 1>3, 6 0>1, 6 1>0, 7 0>1, 7 1>0"),
+    (16, "4 0>1, 4 1>1, 5 0>2, 5 1>0, 5 1>2, 5 1>3, 6 0>1, 6 1>0, 7 0>1, 7 1>0, 8 0>2, 8 2>0"),
     (17, "5 1>2"),
     (18, "1 3>1, 4 1>0"),
     (20, "6 1>2, 6 1>3"),
-    (21, "7 1>2"),
+    (21, "7 1>2, 8 2>1, 8 2>3"),
     (22, "7 2>3, 7 2>4"),
-    (23, "1 3>2"),
+    (23, "1 3>2, 8 4>6, 8 5>6"),
     (24, "1 2>3"),
-    (25, "1 3>1, 4 1>0, 5 3>0, 5 4>0, 6 1>0, 6 2>0, 6 3>0, 6 4>0, 7 1>0, 7 3>0, 7 4>0"),
-    (26, "1 3>2"),
+    (
+        25,
+        "1 3>1, 4 1>0, 5 3>0, 5 4>0, 6 1>0, 6 2>0, 6 3>0, 6 4>0, 7 1>0, 7 3>0, 7 4>0, \
+         8 1>0, 8 3>0, 8 4>0, 8 5>0, 8 6>0",
+    ),
+    (26, "1 3>2, 8 4>6, 8 5>6"),
     (27, "3 0>1, out 1>2"),
     (28, "1 1>2, 3 1>0, 4 0>1, out 2>0"),
     (29, "out 1>0"),
     (30, "out 1>0"),
+    (31, JUDGED),
+    (32, JUDGED),
+    (33, JUDGED),
+    (34, JUDGED),
 ];
+
+/// Each input that brings the clock judges all carriers, and completes those whose port is READY TO UNLOAD.
+const JUDGED: &str = "8 3>4, 8 3>5, 8 4>5, 8 4>6, 8 5>6";
 
 fn by_row(found: &Found) -> BTreeMap<u32, BTreeSet<String>> {
     let mut rows: BTreeMap<u32, BTreeSet<String>> = BTreeMap::new();
@@ -82,6 +98,15 @@ fn requests_are_of_tools_with_a_buffer() {
     let kinds: Vec<&Kinds> = of_requests.flat_map(|(_, causes)| causes.values()).collect();
     assert!(!kinds.is_empty());
     assert!(kinds.iter().all(|kinds| kinds.internal && !kinds.fixed));
+}
+
+/// "for fixed buffer tools, as model 8".
+#[test]
+fn predictions_are_of_tools_without_a_buffer() {
+    let of_model = FOUND.edges.iter().filter(|(edge, _)| edge.of == Subject::Model(Model::Prediction));
+    let kinds: Vec<&Kinds> = of_model.flat_map(|(_, causes)| causes.values()).collect();
+    assert!(!kinds.is_empty());
+    assert!(kinds.iter().all(|kinds| kinds.fixed && !kinds.internal));
 }
 
 /// "At set-up: 1, 0, 0, no tie", for transfer, access, reservation and tie; and nothing is queued.
