@@ -7,7 +7,8 @@ pub use table::EVENTS;
 /// The rows that a message from the host bridge can ask for.
 const OF_MESSAGES: [u32; 4] = [1, 3, 5, 6];
 
-/// What a report of an accepted input stands for in SEMI E87-0312: the numbered transitions of the model's table.
+/// What a report of an accepted input stands for in SEMI E87-0312: the numbered transitions of the model's table; for
+/// model 8 in document 000, which revises E87-0921.
 ///
 /// ```
 /// use hawsermole::{Event, Input, Tool};

@@ -74,7 +74,7 @@ static void check_steps(void)
     hm_report odd = bound;
     hm_tool tool;
 
-    CHECK(hm_setup(&tool, 1, 0, 0, 0) == HM_ACCEPTED);
+    CHECK(hm_setup(&tool, 1, 1, 0, 0) == HM_ACCEPTED);
     check_step(&tool, HM_INPUT_BIND, 1, "A", 2, 17);
     check_step(&tool, HM_INPUT_LOAD_START, 1, "", 6, 3);
     check_step(&tool, HM_INPUT_LOAD_FAIL, 1, "", 10, 10);
@@ -85,6 +85,28 @@ static void check_steps(void)
     CHECK(hm_event_of(HM_INPUT_BIND, &odd) == NULL && hm_event_of_message(&odd) == NULL);
 }
 
+/* Without a buffer: a prediction that waits, and is given up. */
+static void check_prediction(void)
+{
+    static const uint8_t codes[HM_SLOTS] = {HM_CODE_EMPTY};
+    hm_tool tool;
+    hm_reports reports;
+    const hm_event *event;
+
+    CHECK(hm_setup(&tool, 1, 0, 60, 120) == HM_ACCEPTED);
+    CHECK(give(&tool, &reports, HM_INPUT_LOAD_START, 1, 0, "") == HM_ACCEPTED);
+    CHECK(give(&tool, &reports, HM_INPUT_LOAD_DONE, 1, 0, "") == HM_ACCEPTED);
+    check_step(&tool, HM_INPUT_ID_READ, 1, "A", 2, 0); /* a new record has no number in model 8 */
+    CHECK(give(&tool, &reports, HM_INPUT_PROCEED_WITH_CARRIER, 1, 0, "A") == HM_ACCEPTED);
+    CHECK(give(&tool, &reports, HM_INPUT_OPEN, 0, 0, "A") == HM_ACCEPTED);
+    CHECK(hm_step(&tool, &reports, HM_INPUT_SLOT_MAP, 0, 0, BYTES("A"), 1, codes, HM_SLOTS) == HM_ACCEPTED);
+    CHECK(give(&tool, &reports, HM_INPUT_PROCEED_WITH_CARRIER, 1, 0, "A") == HM_ACCEPTED);
+    check_step(&tool, HM_INPUT_ACCESS_START, 0, "A", 18, 23);
+    CHECK(hm_time_step(&tool, &reports, HM_INPUT_NO_PREDICTION, 9, BYTES("A"), 1, 0) == HM_ACCEPTED);
+    event = hm_event_of(HM_INPUT_NO_PREDICTION, &reports.items[0]);
+    CHECK(event != NULL && event->table == 7 && event->events[0] == 27);
+}
+
 int main(int count, char **words)
 {
     if (count != 2) {
@@ -93,5 +115,6 @@ int main(int count, char **words)
     }
     check_table(words[1]);
     check_steps();
+    check_prediction();
     return result("events");
 }
