@@ -7,6 +7,7 @@ use crate::tool::Tool;
 use core::fmt;
 
 /// What is said of a log. Entries are counted from 0, and places are bytes from the log's first.
+#[expect(clippy::large_enum_variant, reason = "without a heap there is no box for the reports")]
 #[derive(Clone, Debug, PartialEq, Eq)]
 pub enum Verdict {
     /// Every entry shows what document 01 gives.
