@@ -1,7 +1,7 @@
 #!/usr/bin/env bash
 # Instructions of one input to the proved machine (one call of hm_step, all that it calls included):
-# the mean over a mix, the worst input, and how both grow with the number of live carriers; those of the name check,
-# hm_name, for texts of some lengths; those of one frame of a panel, hm_waiting; and those of the bridge, hm_secs_step,
+# the mean over a mix, the worst input, and how both grow with the number of live carriers; those of an input that brings
+# the clock, hm_time_step; those of the name check, hm_name, for texts of some lengths; those of one frame of a panel, hm_waiting; and those of the bridge, hm_secs_step,
 # for messages of some kinds.
 #
 #   bench/instructions.sh [PROGRAM]    the release build of this folder; target/release/bench if none is given
@@ -11,7 +11,7 @@
 set -euo pipefail
 here=$(cd "$(dirname "$0")" && pwd)
 program=${1:-$here/target/${CARGO_BUILD_TARGET:+$CARGO_BUILD_TARGET/}release/bench}
-rows=30
+rows=34
 function=hm_step
 work=$(mktemp -d)
 trap 'rm -rf "$work"' EXIT
@@ -69,7 +69,7 @@ print_mean() {
 worst_of() { sort -n "$1" | tail -n 1; }
 
 # Rows 1 to 3, 11, 12, 18, 27 and 28 can't be accepted with 36 records, so fewer are tried as well; row 30 is never
-# refused. The row that takes the most is then searched further.
+# refused. The row that takes the most is then searched further. Rows from 31 on are hm_time_step's.
 print_worst() {
     local carriers row
     for carriers in 32 33 34 35 36; do
@@ -79,12 +79,12 @@ print_worst() {
     counted play 1000 "$carriers" "$row" >>"$work/search"
     echo
     echo "the most for each row, over $(wc -l <"$work/search") states with 32 to 36 live carriers"
-    awk -v rows=$rows '
+    awk '
         { kind = $4 == 0 ? "accepted" : "refused" }
         $1 > top[$3, kind] { top[$3, kind] = $1 }
         END {
             printf "  %3s %9s %9s\n", "row", "accepted", "refused"
-            for (row = 1; row <= rows; row++) printf "  %3d %9s %9s\n", row, top[row, "accepted"], top[row, "refused"]
+            for (row = 1; row <= 30; row++) printf "  %3d %9s %9s\n", row, top[row, "accepted"], top[row, "refused"]
         }' "$work/search"
     echo
     worst_of "$work/search" | awk '{
@@ -111,6 +111,24 @@ print_growth() {
         done
         printf ' %9s\n' "$(most <"$work/any")"
     done
+}
+
+print_timed() {
+    local carriers row function=hm_time_step
+    for carriers in 4 20; do
+        counted timed 400 "$carriers"
+    done >"$work/timed"
+    echo
+    echo "an input that brings the clock, without a buffer, 4 and 20 live carriers, $(wc -l <"$work/timed") states"
+    awk '
+        { kind = $4 == 0 ? "accepted" : "refused"; sum[$3, kind] += $1; count[$3, kind]++ }
+        $1 > top[$3, kind] { top[$3, kind] = $1 }
+        END {
+            printf "  %3s %9s %9s %9s %9s\n", "row", "accepted,", "most", "refused,", "most"
+            for (row = 31; row <= 34; row++)
+                printf "  %3d %9.0f %9s %9.0f %9s\n", row, sum[row, "accepted"] / count[row, "accepted"],
+                    top[row, "accepted"], sum[row, "refused"] / count[row, "refused"], top[row, "refused"]
+        }' "$work/timed"
 }
 
 print_names() {
@@ -153,6 +171,7 @@ choose_counter
 print_mean
 print_worst
 print_growth
+print_timed
 print_names
 print_frame
 print_messages

@@ -1,10 +1,11 @@
 //! Inputs played to the proved machine alone, for what counts instructions. Each call of `hm_step` prints a line,
-//! `CARRIERS NUMBER ANSWER NAMES PORT VALUE NAME CODES`, where CODES is how many there were; each of `hm_name`
-//! `BYTES NAME KIND`, where NAME is how many bytes the name has.
+//! `CARRIERS NUMBER ANSWER NAMES PORT VALUE NAME CODES`, where CODES is how many there were; each of `hm_time_step`,
+//! where those are played, `CARRIERS NUMBER ANSWER REPORTS`; each of `hm_name` `BYTES NAME KIND`, where NAME is how many
+//! bytes the name has.
 
 use hawsermole::{Row, ROWS};
 use independent::gen::{Input, Rng};
-use independent::requests::predict::is_timed;
+use independent::requests::predict::{is_timed, CLOCK};
 use independent::requests::Tool;
 use independent::Reports;
 
@@ -64,6 +65,19 @@ pub fn search(count: usize, carriers: usize) {
         let family = turn / 2 % FAMILIES.len();
         let (state, input) = prepared(carriers, family, row, turn % 2 == 0, &mut rng);
         call(&state, &input, FAMILIES[family]);
+    }
+}
+
+/// The inputs that bring the clock in turn, accepted and refused, each from another prepared state.
+pub fn timed(count: usize, carriers: usize) {
+    let mut rng = Rng::new(7);
+    for k in 0..count {
+        let (row, turn) = (CLOCK + (k % 4) as u32, k / 4);
+        let family = turn / 2 % FAMILIES.len();
+        let (state, i) = prepared(carriers, family, row, turn % 2 == 0, &mut rng);
+        let (mut next, mut reports) = (state, Reports::NONE);
+        let answer = caller_of_hm_time_step(&mut next, i.number, i.clock, &i.name, i.time, &mut reports);
+        println!("{} {} {answer} {}", state.base.count, i.number, reports.as_slice().len());
     }
 }
 
