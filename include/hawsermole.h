@@ -479,12 +479,12 @@ uint32_t hm_waiting(const hm_carrier *carriers, uint64_t count, hm_found *found)
 
 /*
  * Judges the log of another maker's tool by document 01, as it stands before any request: no expected map, no blank at
- * the end of a name, and no queue: CarrierOut moves the carrier at once, and inputs are 1 to 26. The log: the mark CMT;
- * a version of two bytes, the high one first: 1; P and B; then entries. Every other number is one byte. An entry is
- * input number, port, second number, name length, name, 25 codes for input 20 only, answer, report count, reports; a
- * report is model, subject (for models 5 to 7 name length and name, for every other number a port), old, new. Answers
- * by enum hm_verdict, the first that is met in the order of the file; an entry is read to its end before it is judged,
- * and nothing is read after one that disagrees.
+ * the end of a name, no prediction, and no queue: CarrierOut moves the carrier at once; inputs are 1 to 26, models 1 to
+ * 7. The log: the mark CMT; a version of two bytes, the high one first: 1; P and B; then entries. Every other number is
+ * one byte. An entry is input number, port, second number, name length, name, 25 codes for input 20 only, answer,
+ * report count, reports; a report is model, subject (for models 5 to 7 name length and name, for every other number a
+ * port), old, new. Answers by enum hm_verdict, the first that is met in the order of the file; an entry is read to its
+ * end before it is judged, and nothing is read after one that disagrees.
  * What tool, reports and judged held before is gone. The tool is document 01's after the last input that it was given,
  * the reports are that input's, and judged->answer its answer: for HM_LOG_ENTRY_DISAGREES what the entry should show.
  * All zero where the head is refused. A log of any length is read once, where it stands, and no byte outside it.

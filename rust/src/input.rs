@@ -209,7 +209,7 @@ impl<'a> Input<'a> {
     /// assert_eq!(Input::from_parts(&Parts { number: 1, codes: &[5; 25], ..parts }), None);
     /// ```
     pub fn from_parts(parts: &Parts<'a>) -> Option<Input<'a>> {
-        let Parts { number, port, value, name, codes, clock, time } = *parts;
+        let Parts { number, port, value, name, codes, .. } = *parts;
         Some(match number {
             1 if codes.is_empty() => Input::Bind { port, name },
             1 => Input::BindWithMap { port, name, map: ExpectedMap::new(codes).ok()? },
@@ -243,12 +243,20 @@ impl<'a> Input<'a> {
             28 => Input::OutDone { port },
             29 => Input::CancelCarrierOut { name },
             30 => Input::CancelAllCarrierOut,
-            31 => Input::Clock { clock },
-            32 => Input::PredictedTime { clock, name, tp: time },
-            33 => Input::Estimate { clock, name, te: time },
-            34 => Input::NoPrediction { clock, name },
-            _ => return None,
+            _ => return Input::with_clock(parts),
         })
+    }
+
+    /// One of the inputs that bring the clock.
+    fn with_clock(parts: &Parts<'a>) -> Option<Input<'a>> {
+        let Parts { number, name, clock, time, .. } = *parts;
+        match number {
+            31 => Some(Input::Clock { clock }),
+            32 => Some(Input::PredictedTime { clock, name, tp: time }),
+            33 => Some(Input::Estimate { clock, name, te: time }),
+            34 => Some(Input::NoPrediction { clock, name }),
+            _ => None,
+        }
     }
 
     /// The documents' number, 1 to 34.

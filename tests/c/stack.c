@@ -33,6 +33,10 @@ static struct painted for_secs_at = {"hm_secs_at", NULL, NULL};
 static struct painted for_exchange = {"hm_secs_exchange", NULL, NULL};
 static struct painted for_reply = {"hm_reply", NULL, NULL};
 static struct painted for_judge = {"hm_judge", NULL, NULL};
+static struct painted *const all[] = {&for_step, &for_time_step, &for_setup, &for_sound, &for_name, &for_waiting,
+                                      &for_secs_step, &for_secs_at, &for_exchange, &for_reply, &for_judge};
+
+#define FUNCTIONS (sizeof all / sizeof all[0])
 
 static ucontext_t here, there;
 static hm_tool tool;
@@ -319,46 +323,36 @@ static int figure(const struct painted *p)
     return 0;
 }
 
-int main(int argc, char **argv)
+/* What was met; 0 where it is too little for the figures to mean anything. */
+static int met_enough(void)
 {
-    static hm_tool full;
-    int failed = 0;
-
-    prepare(&for_step);
-    prepare(&for_time_step);
-    prepare(&for_setup);
-    prepare(&for_sound);
-    prepare(&for_name);
-    prepare(&for_waiting);
-    prepare(&for_secs_step);
-    prepare(&for_secs_at);
-    prepare(&for_exchange);
-    prepare(&for_reply);
-    prepare(&for_judge);
-    chance_state = 1;
-    every_row_to_full_tools(&full);
-    judged_rows(&full);
-    by_chance(&full, argc > 1 ? strtoul(argv[1], NULL, 10) : 50000);
-    failed += figure(&for_step);
-    failed += figure(&for_time_step);
-    failed += figure(&for_setup);
-    failed += figure(&for_sound);
-    failed += figure(&for_name);
-    failed += figure(&for_waiting);
-    failed += figure(&for_secs_step);
-    failed += figure(&for_secs_at);
-    failed += figure(&for_exchange);
-    failed += figure(&for_reply);
-    failed += figure(&for_judge);
     printf("over %lu accepted and %lu refused inputs, %lu records removed, %lu of them from a full tool of %lu, ",
            accepted, refused, removed, removed_from_full, most_records);
     printf("%lu slot maps OK at once, %lu messages accepted, %lu too deep, %lu accepted with a reply, ", at_once,
            bridged, unread, replied);
-    printf("most reports %lu, ", most_reports);
-    printf("%lu logs that agree, %lu that don't\n", agreed, disagreed);
-    if (accepted == 0 || refused == 0 || removed_from_full == 0 || most_records != HM_RECORDS || at_once == 0 ||
-        bridged == 0 || unread == 0 || replied != bridged || most_reports != HM_REPORTS - 1 || agreed == 0 ||
-        disagreed == 0) {
+    printf("most reports %lu, %lu logs that agree, %lu that don't\n", most_reports, agreed, disagreed);
+    return accepted > 0 && refused > 0 && removed_from_full > 0 && most_records == HM_RECORDS && at_once > 0 &&
+           bridged > 0 && unread > 0 && replied == bridged && most_reports == HM_REPORTS - 1 && agreed > 0 &&
+           disagreed > 0;
+}
+
+int main(int argc, char **argv)
+{
+    static hm_tool full;
+    int failed = 0;
+    size_t i;
+
+    for (i = 0; i < FUNCTIONS; i++) {
+        prepare(all[i]);
+    }
+    chance_state = 1;
+    every_row_to_full_tools(&full);
+    judged_rows(&full);
+    by_chance(&full, argc > 1 ? strtoul(argv[1], NULL, 10) : 50000);
+    for (i = 0; i < FUNCTIONS; i++) {
+        failed += figure(all[i]);
+    }
+    if (!met_enough()) {
         fprintf(stderr, "too little was met for this to mean anything\n");
         failed++;
     }
