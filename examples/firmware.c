@@ -1,4 +1,7 @@
-/* A firmware loop on Hawsermole: two load ports, no buffer, inputs from a queue, reports to the host. No heap. */
+/*
+ * A firmware loop on Hawsermole: two load ports, no buffer, inputs from a queue, reports to the host, and a prediction
+ * of when a carrier is ready to unload. No heap.
+ */
 #include <stdio.h>
 #include <string.h>
 
@@ -47,6 +50,10 @@ static const struct input queue[] = {
 
 static const struct input *const last_of_the_run = &queue[11];
 
+/* The host is told 60 seconds before a carrier can be picked up; a prediction that is 120 seconds late is given up. */
+#define SETTING 60
+#define TIMEOUT 120
+
 static hm_tool tool;       /* the tool that the firmware runs */
 static hm_tool kept;       /* its last good copy: battery-backed memory with a checksum in a real controller */
 static hm_reports reports;
@@ -69,35 +76,60 @@ static void recover(void)
     if (hm_sound(&kept)) {
         tool = kept;
         printf("    the tool is taken back from its kept copy\n");
-    } else if (hm_setup(&tool, 2, 0, 0, 0) == HM_ACCEPTED) {
+    } else if (hm_setup(&tool, 2, 0, SETTING, TIMEOUT) == HM_ACCEPTED) {
         kept = tool;
         printf("    no sound tool is kept: set up anew, the host has to announce its carriers again\n");
     }
 }
 
-/* Gives one input; 1 when it was accepted. */
-static int feed(const struct input *in)
+/* What is done about an answer; 1 when it was accepted. */
+static int answered(const char *text, uint32_t answer)
 {
-    uint32_t answer = hm_step(&tool, &reports, in->number, in->port, in->value, (const uint8_t *)in->name,
-                              strlen(in->name), in->codes, in->codes_length);
     unsigned i;
 
     if (answer == HM_REFUSED_OUT_OF_RANGE && !hm_sound(&tool)) {
-        printf("%s: refused, the tool isn't sound\n", in->text);
+        printf("%s: refused, the tool isn't sound\n", text);
         recover();
         return 0;
     }
     if (answer != HM_ACCEPTED) {
         /* Nothing has changed and there is nothing to undo: move nothing, and give the number to the host. */
-        printf("%s: refused, %u: %s\n", in->text, (unsigned)answer, hm_answer_text(answer));
+        printf("%s: refused, %u: %s\n", text, (unsigned)answer, hm_answer_text(answer));
         return 0;
     }
-    printf("%s: accepted\n", in->text);
+    printf("%s: accepted\n", text);
     kept = tool; /* before the reports go out, so that the copy has all that the host was told */
     for (i = 0; i < reports.count; i++) {
         tell(&reports.items[i]);
     }
     return 1;
+}
+
+static int feed(const struct input *in)
+{
+    return answered(in->text, hm_step(&tool, &reports, in->number, in->port, in->value, (const uint8_t *)in->name,
+                                      strlen(in->name), in->codes, in->codes_length));
+}
+
+/* An input that brings the clock: a real controller gives HM_INPUT_CLOCK every second, with its seconds since start. */
+static int feed_time(const char *text, uint32_t number, uint32_t clock, const char *name, uint32_t time)
+{
+    return answered(text, hm_time_step(&tool, &reports, number, clock, (const uint8_t *)name, strlen(name), time));
+}
+
+/* The recipe of AD is known to end at 1100: a minute before, the host may send a vehicle. */
+static void predict(void)
+{
+    const hm_prediction *prediction;
+
+    feed_time("PredictedTime(1000, AD, 1100)", HM_INPUT_PREDICTED_TIME, 1000, "AD", 1100);
+    feed_time("Clock(1039)", HM_INPUT_CLOCK, 1039, "", 0);
+    feed_time("Clock(1040)", HM_INPUT_CLOCK, 1040, "", 0);
+    prediction = hm_find_prediction(&tool, (const uint8_t *)"AD", 2);
+    if (prediction != NULL && prediction->state == HM_PREDICTION_PREDICTED) {
+        printf("    AD is ready to unload in %u seconds\n",
+               (unsigned)(hm_seconds(&prediction->predicted) - hm_seconds(&tool.clock)));
+    }
 }
 
 int main(void)
@@ -114,6 +146,8 @@ int main(void)
     for (i = 0; i < sizeof queue / sizeof queue[0]; i++) {
         accepted += (unsigned)feed(&queue[i]);
     }
+
+    predict();
 
     printf("one byte of the tool is damaged\n");
     tool.ports[0].transfer ^= 0x40;

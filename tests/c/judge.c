@@ -159,8 +159,8 @@ static void no_queue(void)
     CHECK(tool.ports[0].transfer == HM_TRANSFER_READY_TO_UNLOAD && tool.carriers[0].came_out == 1);
 }
 
-/* Nor predictions: 31 and 34 are no inputs, and a record that is made or goes has no report of model 8, which would have
-   a port in a log. */
+/* Nor predictions: 31 and 34 are no inputs, and a record that is made or goes has no report of model 8, which in a log
+   would have a port. */
 static void no_predictions(void)
 {
     static const uint8_t told[] = {
