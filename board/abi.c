@@ -179,7 +179,7 @@ static uint32_t give(hm_tool *tool, hm_reports *reports, const uint8_t *name, co
 #define APART __attribute__((aligned(8)))
 
 static uint8_t tool_room[sizeof(hm_tool) + 3] APART, reports_room[sizeof(hm_reports) + 3] APART;
-static uint8_t name_room[LONGEST + 3] APART, codes_room[LONGEST + 3] APART, message_room[LONGEST_MESSAGE + 3] APART;
+static uint8_t codes_room[LONGEST + 3] APART, message_room[LONGEST_MESSAGE + 3] APART; /* a name, and then a message */
 
 /* The same input and the same message to the tool and to a copy at this distance. */
 static void at_distance(uint32_t distance, hm_tool *tool, hm_reports *reports)
@@ -189,13 +189,13 @@ static void at_distance(uint32_t distance, hm_tool *tool, hm_reports *reports)
     uint32_t answer, items, odd_items;
 
     memcpy(odd_tool, tool, sizeof *tool);
-    memcpy(name_room + distance, in.name, in.name_length);
+    memcpy(message_room + distance, in.name, in.name_length);
     memcpy(codes_room + distance, in.codes, in.codes_length);
-    memcpy(message_room + distance, sent.bytes, sent.length);
     answer = give(tool, reports, in.name, in.codes);
-    check(answer == give(odd_tool, odd_reports, name_room + distance, codes_room + distance),
+    check(answer == give(odd_tool, odd_reports, message_room + distance, codes_room + distance),
           "the same answer at every alignment");
     check(memcmp(odd_reports, reports, sizeof *reports) == 0, "the same reports at every alignment");
+    memcpy(message_room + distance, sent.bytes, sent.length);
     answer = hm_secs_step(tool, reports, sent.bytes, sent.length, &items);
     check(answer == hm_secs_step(odd_tool, odd_reports, message_room + distance, sent.length, &odd_items),
           "the same answer to a message at every alignment");

@@ -148,7 +148,7 @@ try_broken() {
 
 # The mean of the inputs by chance, which come after those to a full tool; the most of all.
 try_instructions() {
-    play counted -DINPUTS=10000u
+    play counted -DINPUTS=20000u
     functions=$(symbols -g --defined-only | tr ' ' '\n' | grep -v '_size$' | sed 's/^/function=/' | paste -sd, -)
     run counted -plugin "$plugins/count.so,$functions" -d plugin -D "$dir/counts" ||
         fail "$1" "the counted firmware failed"
@@ -158,7 +158,7 @@ try_instructions() {
         $2 > most[$1] { most[$1] = $2 }
         END { for (f in calls) printf "  instructions of %s: mean %.0f, most %d\n", f, sum[f] / summed[f], most[f] }
     ' "$dir/counts" | sort
-    [ "$(grep -Ec '^hm_(time_)?step ' "$dir/counts")" -eq $((swept + 10000)) ] ||
+    [ "$(grep -Ec '^hm_(time_)?step ' "$dir/counts")" -eq $((swept + 20000)) ] ||
         fail "$1" "calls were missed in counting"
 }
 
