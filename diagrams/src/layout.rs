@@ -57,7 +57,8 @@ const fn route(from: Node, to: Node, way: &'static [Point], label: Point, side: 
     Route { from, to, way, label, side }
 }
 
-pub const LAYOUTS: [Layout; 8] = [TRANSFER, ACCESS, RESERVATION, TIE, ID, SLOT, ACCESSING, REQUEST];
+pub const LAYOUTS: [Layout; 9] =
+    [TRANSFER, ACCESS, RESERVATION, TIE, ID, SLOT, ACCESSING, PREDICTION, REQUEST];
 
 const TRANSFER: Layout = Layout {
     file: "transfer.svg",
@@ -172,6 +173,37 @@ const ACCESSING: Layout = Layout {
         route(State(2), State(4), &[(425, 255), (550, 255), (550, 378)], (542, 317), End),
         route(State(3), NoRecord, &[(130, 422), (130, 485)], (138, 453), Start),
         route(State(4), NoRecord, &[(550, 422), (550, 485)], (542, 453), End),
+    ],
+};
+
+const PREDICTION: Layout = Layout {
+    file: "prediction.svg",
+    of: Subject::Model(Model::Prediction),
+    height: 590,
+    box_width: 152,
+    states: &[
+        (2, (340, 122)),
+        (1, (86, 240)),
+        (3, (340, 240)),
+        (4, (150, 380)),
+        (5, (530, 380)),
+        (6, (340, 525)),
+    ],
+    routes: &[
+        route(NoRecord, State(2), &[(305, 22), (305, 100)], (295, 52), End),
+        route(State(2), NoRecord, &[(375, 100), (375, 22)], (385, 52), Start),
+        route(State(2), State(1), &[(264, 122), (60, 122), (60, 218)], (68, 170), Start),
+        route(State(1), NoRecord, &[(60, 262), (60, 310)], (70, 294), Start),
+        route(State(2), State(3), &[(325, 144), (325, 218)], (333, 181), Start),
+        route(State(3), NoRecord, &[(416, 230), (490, 230)], (502, 230), Start),
+        route(State(3), State(4), &[(264, 240), (190, 240), (190, 358)], (198, 309), Start),
+        route(State(3), State(5), &[(416, 250), (490, 250), (490, 358)], (482, 309), End),
+        route(State(4), State(5), &[(226, 380), (454, 380)], (340, 420), Middle),
+        route(State(4), NoRecord, &[(74, 380), (24, 380)], (58, 344), Middle),
+        route(State(5), NoRecord, &[(606, 380), (656, 380)], (622, 344), Middle),
+        route(State(4), State(6), &[(120, 402), (120, 525), (264, 525)], (128, 463), Start),
+        route(State(5), State(6), &[(560, 402), (560, 525), (416, 525)], (552, 463), End),
+        route(State(6), NoRecord, &[(340, 547), (340, 580)], (352, 572), Start),
     ],
 };
 

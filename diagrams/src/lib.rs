@@ -1,7 +1,7 @@
 //! The state models of document 01 and the life of a CarrierOut request as pictures, found by running the proved
 //! machine: [`explore`] finds every transition that a run from set-up can cause, [`layout`] says where things stand,
 //! [`plan`] joins the two, [`shape`] sees that nothing lies on anything else, and [`svg`] writes. [`subject`] has what
-//! a picture may be of. [`walk`] makes tables of played scripts.
+//! a picture may be of. [`timeline`] draws what a prediction is when. [`walk`] makes tables of played scripts.
 //! [`events`] holds the standard's numbers of all reports to what [`explore`] found; [`card`] is for the pocket.
 #![forbid(unsafe_code)]
 
@@ -14,6 +14,7 @@ pub mod shape;
 pub mod subject;
 pub mod svg;
 pub mod text;
+pub mod timeline;
 pub mod walk;
 
 /// Every picture: its file's name and what the file holds.
@@ -23,7 +24,9 @@ pub fn pictures(found: &explore::Found) -> Result<Vec<(&'static str, String)>, S
         shape::check(&plan)?;
         Ok((layout.file, svg::svg(&plan)))
     };
-    layout::LAYOUTS.iter().map(picture).collect()
+    let mut all: Vec<_> = layout::LAYOUTS.iter().map(picture).collect::<Result<_, String>>()?;
+    all.push((timeline::FILE, timeline::svg()?));
+    Ok(all)
 }
 
 /// The card, and the files that are made from `docs/events.tsv`: each path from the root, and what the file holds.

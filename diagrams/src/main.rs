@@ -11,7 +11,7 @@ use std::path::Path;
 use std::process::ExitCode;
 
 const USAGE: &str = "\
-usage: diagrams DIR            writes the pictures of the state models and of a CarrierOut request to DIR
+usage: diagrams DIR            writes the pictures of the state models, of a CarrierOut request and of time to DIR
        diagrams --check DIR    status 1 unless DIR holds just the pictures that would be written
        diagrams --events ROOT  writes the card and what is made from ROOT/docs/events.tsv; status 1 unless that has
                                every report that a run gives

@@ -18,12 +18,15 @@ pub struct Arrow {
 pub struct Plan {
     pub layout: Layout,
     pub arrows: Vec<Arrow>,
+    /// Whether the whole model is a fixed buffer tool's alone: then no input is marked so.
+    pub fixed_alone: bool,
 }
 
 /// Joins the two; `Err` names the first state or transition that only one of them has.
 pub fn plan(layout: &Layout, found: &Found) -> Result<Plan, String> {
     let mut words = words_found(layout.of, found);
     check_states(layout, &words)?;
+    let fixed_alone = unmark(layout.of, &mut words);
     let mut arrows = Vec::new();
     for &route in layout.routes {
         let lines = words.remove(&(route.from, route.to)).ok_or_else(|| {
@@ -33,7 +36,7 @@ pub fn plan(layout: &Layout, found: &Found) -> Result<Plan, String> {
     }
     match words.keys().next() {
         Some(&(from, to)) => Err(format!("{}: {} was found but has no way", layout.file, arrow(from, to))),
-        None => Ok(Plan { layout: *layout, arrows }),
+        None => Ok(Plan { layout: *layout, arrows, fixed_alone }),
     }
 }
 
@@ -49,6 +52,17 @@ fn words_found(subject: Subject, found: &Found) -> Words {
         words.insert((node(subject, edge.old), node(subject, edge.new)), lines);
     }
     words
+}
+
+/// Takes the mark of fixed buffer tools off where every input of a model has it.
+fn unmark(subject: Subject, words: &mut Words) -> bool {
+    let mark = format!(" {}", text::FIXED);
+    let model = matches!(subject, Subject::Model(_));
+    let all = model && !words.is_empty() && words.values().flatten().all(|line| line.ends_with(&mark));
+    if all {
+        words.values_mut().flatten().for_each(|line| line.truncate(line.len() - mark.len()));
+    }
+    all
 }
 
 /// 0 is a state of a port or a request, and "no state" of a carrier.

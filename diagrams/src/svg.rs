@@ -87,7 +87,7 @@ fn dot_text((x, y): Point, begins: bool) -> String {
 }
 
 /// Lines of text; the point is at half their height.
-fn lines_text(lines: &[String], (x, y): Point, side: Side, bold: bool) -> String {
+pub fn lines_text(lines: &[String], (x, y): Point, side: Side, bold: bool) -> String {
     let anchor = match side {
         Side::Start => "start",
         Side::Middle => "middle",
@@ -130,6 +130,9 @@ fn legend(plan: &Plan) -> Vec<Vec<(Key, String)>> {
     let used: Vec<_> = used.map(|(mark, text)| (Key::Mark(mark), String::from(text))).collect();
     if !used.is_empty() {
         lines.push(used);
+    }
+    if plan.fixed_alone {
+        lines.push(vec![(Key::Mark(""), "all of it in a fixed buffer tool alone".into())]);
     }
     lines
 }

@@ -70,6 +70,24 @@ fn a_request_is_drawn_without_numbers() {
     assert!(!text.contains(">0</text>") && !text.contains("the standard"));
 }
 
+/// A model that fixed buffer tools alone have says so once, and not at each input.
+#[test]
+fn what_every_input_has_is_told_once() {
+    let of = Subject::Model(Model::Access);
+    let alone = Kinds { fixed: true, internal: false };
+    let edges = |second: Kinds| {
+        let edge = |old, new, kinds| {
+            (Edge { of, old, new }, BTreeMap::from([(Cause { number: 9, choice: Some(1) }, kinds)]))
+        };
+        Found { first: [].into(), edges: [edge(0, 1, alone), edge(1, 0, second)].into(), tools: 1 }
+    };
+    let drawn = |second| svg(&plan(&layout(STATES, &[OUT, BACK]), &edges(second)).unwrap());
+    let once = drawn(alone);
+    assert!(once.contains(">all of it in a fixed buffer tool alone</text>") && !once.contains("(F)"));
+    let marked = drawn(Kinds { fixed: true, internal: true });
+    assert!(marked.contains(">ChangeAccess: AUTO #2 (F)</text>") && !marked.contains("all of it"));
+}
+
 #[test]
 fn a_transition_without_a_way_is_told() {
     let told = trouble(STATES, &[SETUP, OUT], &[(0, 1), (1, 0)]);
