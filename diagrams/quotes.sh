@@ -96,7 +96,7 @@ sed -n '/^<!-- texts -->$/,/^$/p' "$root/docs/MANUAL.md" | awk -F ' *[|] *' -v t
         }
         name = substr(hex, 1, 2 * $4)
         print "setup 1 0\nin 3 0 0 " (hex == "" ? "-" : hex) " -" > typed
-        print "setup 0\n" ($4 == 0 ? "1 0 []" : "0 3 [5 " name " 0 1; 6 " name " 0 1; 7 " name " 0 1]") > wanted
+        print "setup 0\n" ($4 == 0 ? "1 0 []" : "0 4 [5 " name " 0 1; 6 " name " 0 1; 7 " name " 0 1; 8 " name " 0 2]") > wanted
         texts++
     }
     END { print texts + 0 }
