@@ -75,7 +75,7 @@ pub fn card() -> String {
     }
     text += "\n| Model | Of a | States | E87's Table |\n|---|---|---|---|\n";
     text += &Model::ALL.map(model_line).concat();
-    text += "\nOn the wire (E87.1): transfer 1, 2, 3 are 2, 3, 1 there; models 5 to 7 are one less. \
+    text += "\nOn the wire (E87.1): transfer 1, 2, 3 are 2, 3, 1 there; models 5 to 8 are one less. \
              A tie 1>1 has passed to another carrier.\n\n";
     text += &format!(
         "Movement: {}. Tag: {}. Place: {}. Request: {}.\n",

@@ -99,7 +99,7 @@ fn labels_and_scripts_are_there() {
     let folder = fs::read_dir(root().join("tests/scenarios")).unwrap();
     let there: Vec<String> = folder.map(|entry| entry.unwrap().file_name().into_string().unwrap()).collect();
     let mut cited = between(&manual, "`", "`");
-    cited.retain(|word| word.starts_with("r1_2_") || word.starts_with("narrowings_"));
+    cited.retain(|word| ["r1_2_", "r3_4_", "narrowings_"].iter().any(|start| word.starts_with(start)));
     assert!(cited.len() > 10);
     for script in cited {
         assert!(there.iter().any(|file| file.starts_with(script)), "{script}");
