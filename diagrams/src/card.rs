@@ -76,7 +76,8 @@ pub fn card() -> String {
     text += "\n| Model | Of a | States | E87's Table |\n|---|---|---|---|\n";
     text += &Model::ALL.map(model_line).concat();
     text += "\nOn the wire (E87.1): transfer 1, 2, 3 are 2, 3, 1 there; models 5 to 8 are one less. \
-             A tie 1>1 has passed to another carrier.\n\n";
+             A tie 1>1 has passed to another carrier. \
+             PREDICTED from Tp less setting time on, ABORTED from Tp plus timeout on, if a clock is sent.\n\n";
     text += &format!(
         "Movement: {}. Tag: {}. Place: {}. Request: {}.\n",
         numbered!(Movement),
