@@ -152,6 +152,11 @@ pub fn each_step(ports: u32, places: u32, names: &[&[u8]], call: impl FnMut(Step
     each_step_from(start(ports, places, &STILL), &inputs(ports, places, names, &STILL), call)
 }
 
+/// The same for a tool of one port that predicts, with [`TIMES`].
+pub fn each_timed_step(names: &[&[u8]], call: impl FnMut(Step<'_>)) -> usize {
+    each_step_from(start(1, 0, &TIMES), &inputs(1, 0, names, &TIMES), call)
+}
+
 fn each_step_from(start: Tool, inputs: &[Input], mut call: impl FnMut(Step<'_>)) -> usize {
     let mut met: HashSet<[u8; TOOL_BYTES]> = HashSet::from([*start.as_bytes()]);
     let mut waiting = VecDeque::from([start]);

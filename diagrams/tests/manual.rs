@@ -1,4 +1,5 @@
 //! What docs/MANUAL.md quotes, cites and claims.
+use diagrams::explore::{each_step, each_timed_step, Step, NAMES};
 use diagrams::walk::walk;
 use std::collections::HashSet;
 use std::fs;
@@ -107,17 +108,19 @@ fn labels_and_scripts_are_there() {
 }
 
 /// "Send it again. If it was in, it is now refused or changes nothing": tried after every accepted input within
-/// the bounds of the search.
+/// the bounds of the search, and of the one with clocks and times.
 #[test]
 fn an_input_sent_twice_does_no_more_than_once() {
     let mut tried = 0;
+    let mut twice = |step: Step<'_>| {
+        let mut again = step.after.clone();
+        assert!(again.step(step.input).map_or(true, |reports| reports.len() == 0), "{}", step.input);
+        assert!(again == *step.after, "{}", step.input);
+        tried += 1;
+    };
     for places in [0, 1] {
-        diagrams::explore::each_step(1, places, &diagrams::explore::NAMES, |step| {
-            let mut again = step.after.clone();
-            assert!(again.step(step.input).map_or(true, |reports| reports.len() == 0), "{}", step.input);
-            assert!(again == *step.after, "{}", step.input);
-            tried += 1;
-        });
+        each_step(1, places, &NAMES, &mut twice);
     }
-    assert!(tried > 10_000, "{tried}");
+    each_timed_step(&NAMES[..1], &mut twice);
+    assert!(tried > 30_000, "{tried}");
 }
