@@ -132,7 +132,7 @@ fn search(start: Tool, inputs: &[Input], names: &[&[u8]], found: &mut Found) {
     let tools = each_step_from(start, inputs, |step| {
         let cause = cause(step.after, step.input);
         let requests: Vec<Edge> = names.iter().filter_map(|name| of_request(&step, name)).collect();
-        let reported = step.reports.into_iter().map(|report| {
+        let reported = step.reports.map(|report| {
             let of = Subject::Model(report.model);
             Edge { of, old: report.old, new: report.new }
         });
