@@ -1,0 +1,3 @@
+pub mod Times
+pub mod Wafers
+pub mod Cases
