@@ -177,6 +177,8 @@ out-done-spec =
     (λ c. search needs) (λ c κs. tt) (λ c. search needs) (λ c. search needs) (λ c. search needs)
     (λ c κs. let s = c .before .before .before .before .before .before .before .before .before .before .before .before .before .before .before in held (s .args .m .now) (s .pre))
     (λ c. search needs) (λ c κs. tt)
-    (λ c κs. let s = c .before .before .before .before .before .before .before .before .before .before .before .before .before .before .before .before .before .before in holds (s .args .m .now) (s .pre))
+    (λ c κs.
+    let s = c .before .before .before .before .before .before .before .before .before .before .before .before .before .before .before .before .before .before in
+    holds (s .args .m .now) (s .pre))
     (λ c. search needs) (λ c κs. tt) carry-out-requires (λ c. search needs) remove-requires (λ c κs. tt) (λ c. search needs)
     (λ c κs. tt) (λ c κs. tt) returns returns-2)
