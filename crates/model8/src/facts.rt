@@ -7,7 +7,7 @@ use prediction::prediction::*;
 use times::words::WAITING_FOR_CARRIER;
 
 // A number of seconds where sums of them have room.
-fn roomy(n: u32) -> u64
+pub fn roomy(n: u32) -> u64
     ensures { λ r. ⌜ r ≡ n ⌝ }
 {
     n as u64

@@ -4,16 +4,22 @@ use native.Mathlib.Omega.{arith}
 use mathlib.Core.Path.{_≡_, refl, ap, sym, _∙_}
 use mathlib.Core.Bool.{Bool, true, false, cond}
 use mathlib.Core.List.{List, [], _∷_, _++_}
+use lib.ListN.{getD}
 use lib.Dec.{eqb, ltb}
 use Rattle.rules.specs.declared.row.Seen.{Seen}
 use Rattle.rules.specs.Row.{Ground, when, unless, judge, lower, lowest}
 use Rattle.rules.specs.Seen.{see}
 use Rattle.rules.proofs.Lowest.{first-is-lowest, risingFrom}
 use Rattle.prediction.specs.declared.prediction.Prediction.{Prediction}
-use Rattle.prediction.specs.State.{Predicted, baseOf, Timed, isFixed}
-use Rattle.prediction.specs.Sound.{isTime}
+use Rattle.mapped.specs.Bytes.{ownIn}
+use Rattle.prediction.specs.Predictions.{noPrediction}
+use Rattle.prediction.specs.State.{Predicted, baseOf, stateOf, Timed, isFixed}
+use Rattle.prediction.specs.Sound.{isTime, soundTool}
 use Rattle.prediction.specs.Outcome.{isTimed, named, clockGrounds, tpGrounds, teGrounds, noneGrounds, groundsOf, answerIn}
+use Rattle.times.specs.Bytes.{timesFrom, predictionsFrom}
+use Rattle.predicted.specs.Bytes.{predictedIn, baseIn}
 use Rattle.predicted.specs.Asked.{timedGrounds}
+use Rattle.predicted.proofs.Held.{table-at}
 
 -- a ground that doesn't apply
 clear : (b : Bool) → b ≡ true → (gs hs : List Ground) → risingFrom 1 gs ≡ true → lowest gs ≡ lowest hs
@@ -52,3 +58,18 @@ pub answer-is : (s : Predicted) (i : Timed) → isTimed (i .input .number) ≡ t
     → answerIn s i ≡ lowest (groundsOf (i .input .number) s (see (baseOf s) (i .input)) i)
 unfolding answerIn
 answer-is s i t = rw t
+
+-- the same, the same is asked
+pub asked-of : (n : ℕ) (x : Seen) {a b : Bool} {p q : Prediction} {c d : Bool} → a ≡ b → p ≡ q → c ≡ d
+    → judge (timedGrounds n x a p c) ≡ judge (timedGrounds n x b q d)
+asked-of n x f g h = rw (f, g, h)
+
+-- what the code asks of what it saw gives the answer
+pub seen-answers : (m : List (List ℕ)) → soundTool (predictedIn m) ≡ true → (i : Timed) (x : Seen) → x ≡ see (baseIn m) (i .input)
+    → isTimed (i .input .number) ≡ true → isTime (i .clock) ≡ true → isTime (i .time) ≡ true
+    → judge (timedGrounds (i .input .number) x (isFixed (baseIn m)) (getD (predictionsFrom (ownIn m)) (x .stands) noPrediction)
+    (ltb (i .clock) (timesFrom (ownIn m) .now))) ≡ answerIn (stateOf (predictedIn m)) i
+seen-answers m h i x e t clock time =
+    asked-of (i .input .number) x refl (table-at m h (x .stands)) refl
+    ∙ asked-is (i .input .number) (stateOf (predictedIn m)) x i clock time
+    ∙ ap (λ y. lowest (groundsOf (i .input .number) (stateOf (predictedIn m)) y i)) e ∙ sym (answer-is (stateOf (predictedIn m)) i t)

@@ -2,17 +2,19 @@
 ghost use mathlib.Core.Path.{_≡_};
 ghost use mathlib.Core.Bool.{true};
 ghost use mathlib.Core.List.{[], _∷_};
-ghost use lib.Dec.{eqb};
+ghost use lib.Dec.{eqb, ltb};
+ghost use lib.ListN.{getD};
 ghost use Rattle.rules.specs.Row.{when, unless, judge};
 ghost use Rattle.rules.specs.Seen.{inputOf};
 ghost use Rattle.follow.specs.Follow.{KeptOutside};
 ghost use Rattle.mapped.specs.Bytes.{ownIn};
 ghost use Rattle.prediction.specs.Model.{waitingForPrediction};
-ghost use Rattle.prediction.specs.Predictions.{hasTp};
+ghost use Rattle.prediction.specs.Predictions.{noPrediction, hasTp};
 ghost use Rattle.prediction.specs.Sound.{soundTool};
-ghost use Rattle.prediction.specs.State.{timed};
-ghost use Rattle.prediction.specs.Outcome.{isTimed, givenIn};
-ghost use Rattle.predicted.specs.Bytes.{predictedIn, left};
+ghost use Rattle.prediction.specs.State.{stateOf, timed, isFixed};
+ghost use Rattle.prediction.specs.Outcome.{isTimed, answerIn, givenIn};
+ghost use Rattle.times.specs.Bytes.{timesFrom, predictionsFrom};
+ghost use Rattle.predicted.specs.Bytes.{predictedIn, left, baseIn};
 ghost use Rattle.predicted.specs.Asked.{timedGrounds};
 use crate::moved::moved_along;
 use follow::blocks::BLOCKS;
@@ -72,6 +74,37 @@ fn timed_answer(number: u32, x: Seen, fixed: bool, p: Prediction, back: bool) ->
     }
 }
 
+// The answer to one of the four, by what is seen of its name.
+fn seen_answer(m: &[[u8; TOOL_BYTES]; BLOCKS], number: u32, x: Seen, clock: u32) -> u8
+    ensures { λ r. ⌜ r ≡ judge (timedGrounds number x (isFixed (baseIn (now (m .entry))))
+        (getD (predictionsFrom (ownIn (now (m .entry)))) (x .stands) noPrediction)
+        (ltb clock (timesFrom (ownIn (now (m .entry))) .now))) ⌝ }
+{
+    let t = times_at(&m[1]);
+    let p = prediction_at(&m[1], x.stands);
+    let fixed = places(&m[0]) == 0;
+    timed_answer(number, x, fixed, p, clock < t.now)
+}
+
+// The answer alone: nothing is taken.
+pub fn answer_alone(
+    m: &[[u8; TOOL_BYTES]; BLOCKS],
+    number: u32,
+    port: u32,
+    value: u32,
+    name: &[u8],
+    codes: &[u8],
+    clock: u32,
+) -> u8
+    requires { ⌜ soundTool (predictedIn (now m)) ≡ true ⌝ }
+    requires { ⌜ isTimed number ≡ true ⌝ }
+    ensures { λ r. ⌜ r ≡ answerIn (stateOf (predictedIn (now (m .entry))))
+        (timed (inputOf number port value (now (name .entry)) (now (codes .entry))) clock 0) ⌝ }
+{
+    let x = look(&m[0], port, value, name, codes);
+    seen_answer(m, number, x, clock)
+}
+
 // One of the four: the clock is taken, then what it says of the carrier that it names, and every carrier is judged.
 pub fn timed_step(
     m: &mut [[u8; TOOL_BYTES]; BLOCKS],
@@ -93,9 +126,7 @@ pub fn timed_step(
     blocks(m);
     let x = look(&m[0], port, value, name, codes);
     let t = times_at(&m[1]);
-    let p = prediction_at(&m[1], x.stands);
-    let fixed = places(&m[0]) == 0;
-    let answer = timed_answer(number, x, fixed, p, clock < t.now);
+    let answer = seen_answer(m, number, x, clock);
     no_reports(o);
     if answer == 0 {
         put_clock(&mut m[1], clock);

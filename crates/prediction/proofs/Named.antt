@@ -128,7 +128,7 @@ module _ (i : Timed) (h : isName (i .input .name) ≡ false) (t : takesName (i .
         go false true p false r k = clash k refl
         go false false p v r k = clash k refl
 
-    answers : answerIn s i ≡ 1
+    pub answers : answerIn s i ≡ 1
     unfolding answerIn
     answers = go (isTimed (i .input .number)) refl
       where

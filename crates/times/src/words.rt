@@ -13,3 +13,6 @@ pub const COMPLETED: u8 = 6;
 
 // one day, in seconds
 pub const SPAN_MOST: u32 = 86400;
+
+// the first number that is no time: clock, Tp and Te are below it
+pub const TIME_END: u64 = 4294967296;

@@ -38,7 +38,7 @@ use Rattle.predicted.specs.Asked.{timedGrounds}
 use Rattle.predicted.proofs.Movers.{own-then, base-then, kept-then, as-many}
 use Rattle.predicted.proofs.Held.{queue-is, held, none-after, table-at, queued-again}
 use Rattle.predicted.proofs.Given.{same-after, same-told, refused-left, accepted-left}
-use Rattle.predicted.proofs.Asked.{asked-is, answer-is}
+use Rattle.predicted.proofs.Asked.{seen-answers}
 use Rattle.predicted.proofs.Clocked.{queued-same, after-is, times-is, first-is, reports-are, spot-is}
 use Rattle.predicted.proofs.timed.timed_step.Statement.{statement}
 use Rattle.predicted.proofs.timed.timed_step.Tie as tie
@@ -57,13 +57,9 @@ clock-fits s = lt-ltb (s .args .clock) 4294967296 (omega arith)
 time-fits : (s : tie.Start) → ltb (s .args .time) 4294967296 ≡ true
 time-fits s = lt-ltb (s .args .time) 4294967296 (omega arith)
 
-asked : (n : ℕ) {x y : Seen} {a b : Bool} {p q : Prediction} {c d : Bool} → x ≡ y → a ≡ b → p ≡ q → c ≡ d
-    → judge (timedGrounds n x a p c) ≡ judge (timedGrounds n y b q d)
-asked n e f g h = rw (e, f, g, h)
-
-module _ (c : tie.After-timed-answer) where
+module _ (c : tie.After-seen-answer) where
   abbrev clocks : tie.After-times-at
-  clocks = c .before .before .before .before .before .before
+  clocks = c .before .before
 
   abbrev seeing : tie.After-look
   seeing = clocks .before .before
@@ -78,22 +74,15 @@ module _ (c : tie.After-timed-answer) where
   looked =
       see-number _ (s .args .number) (s .args .port) (s .args .value) (s .args .name .now) (s .args .codes .now) _ (seeing .look .ensures)
 
-  answered : c .timed-answer .result ≡ answerIn (state s) (input s)
-  answered =
-      c .timed-answer .ensures
-      ∙ asked (s .args .number) looked (ap (λ n. eqb n 0) (c .before .before .places .ensures))
-      (c .before .before .before .before .prediction-at .ensures ∙ table-at m (s .pre .0) (seeing .look .result .stands)
-      ∙ ap (λ (x : Seen). getD (usedIn m) (x .stands) noPrediction) looked)
-      (ap (λ (t : Times). ltb (s .args .clock) (t .now)) (clocks .times-at .ensures))
-      ∙ asked-is (s .args .number) (state s) (see (baseIn m) (input s .input)) (input s) (clock-fits s) (time-fits s)
-      ∙ sym (answer-is (state s) (input s) (s .pre .1))
+  answered : c .seen-answer .result ≡ answerIn (state s) (input s)
+  answered = c .seen-answer .ensures ∙ seen-answers m (s .pre .0) (input s) (seeing .look .result) looked (s .pre .1) (clock-fits s) (time-fits s)
 
 two : (c : tie.After-look) → 1 < length (c .before .before .before .before .before .before .before .args .m .now)
 two c = search needs
 
 -- the clock is taken, and nothing else
 module _ (c : tie.After-put-clock) where
-  abbrev answering : tie.After-timed-answer
+  abbrev answering : tie.After-seen-answer
   answering = c .before .before .before .before .before
 
   abbrev first : tie.Start
@@ -159,7 +148,7 @@ returns c =
 returns-2 : tie.Need-returns-2
 returns-2 c =
     let a = c .before .before .before in (
-      refused-left (m a) (input (s a)) (a .timed-answer .result) _ (sym (answered a)) (c .if1 .left) (c .before .no-reports .ensures),
+      refused-left (m a) (input (s a)) (a .seen-answer .result) _ (sym (answered a)) (c .if1 .left) (c .before .no-reports .ensures),
       kept-all 0 1597 (ownIn (m a)),
     )
 
@@ -168,5 +157,5 @@ timed-step-spec =
     tie.close
     (tie.spec (λ c κs. tt) (λ c. search needs)
     (λ c κs. let s = c .before .before .before .before .before .before in held (s .args .m .now) (s .pre .0))
-    (λ c. search needs) (λ c κs. tt) (λ c. search needs) (λ c κs. tt) (λ c. search needs) (λ c κs. tt) (λ c κs. tt) (λ c κs. tt)
-    (λ c. search needs) (λ c κs. tt) (λ c κs. tt) (λ c κs. tt) moved-along-requires returns returns-2)
+    (λ c. search needs) (λ c κs. tt) (λ c κs. tt) (λ c κs. tt) (λ c. search needs) (λ c κs. tt) (λ c κs. tt) (λ c κs. tt)
+    moved-along-requires returns returns-2)
