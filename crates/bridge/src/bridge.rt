@@ -20,6 +20,7 @@ pub fn bridge_step(
     ensures { λ r. ⌜ r ≡ bridged (wholeIn (now (m .entry))) (now (message .entry)) .answer ⌝ }
     ensures { λ r. ⌜ now (items .exit) ≡ itemsIn (now (message .entry)) ⌝ }
 {
+    let none = [0.0; 0];
     let q = request_in(message);
     *items = q.count as u32;
     if q.refusal != 0 {
@@ -40,5 +41,6 @@ pub fn bridge_step(
         &codes[..coded],
         0,
         0,
+        &none,
     )
 }

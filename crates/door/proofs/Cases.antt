@@ -25,7 +25,10 @@ use Rattle.prediction.specs.Model.{next, passed, lastOf}
 use Rattle.prediction.specs.Predictions.{isSoon, isLate}
 use Rattle.prediction.specs.State.{firstPrediction}
 use Rattle.prediction.specs.Sound.{isReady}
-use Rattle.prediction.specs.Outcome.{saysOf, groundsOf, answerIn, allAlong, written, ownFacts, allFacts, belowIn, stateAfter}
+use Rattle.prediction.specs.Outcome as prediction
+use Rattle.prediction.specs.Outcome.{saysOf, groundsOf, allAlong, written, ownFacts, allFacts, belowIn, stateAfter}
+use Rattle.ticks.specs.Wafers as ticks
+use Rattle.wafers.specs.Outcome.{good, answerIn}
 use Rattle.prediction.specs.Cases.{smooth, after}
 use Rattle.door.specs.Door.{mayPad, mayPadRun}
 use Rattle.door.specs.Cases.{holds, cases, timedCases, queueCases, padsHold, paddings}
@@ -35,7 +38,8 @@ unfolding every any howMany whereIs without fill sameList isName inBytes sameNam
     howManyExpected spotTaken someOpen see lower lowest enact placed unknownPod foundOrNew takesUnknownPod canProceed meant meantPort meantStands onePair elsewhere
     matching displaced base.rowOf followed remains refused shortened isExpected equals carries newMap maps-rows.codesIn maps-rows.rowOf
     maps.answerIn maps.stateAfter maps-runs.reached carrierOf mayLeave only untilZero rowOf queue.answersIn queue.answerIn
-    queue.stateAfter queue.goesIn queue.madeIn next passed lastOf isSoon isLate firstPrediction isReady saysOf groundsOf answerIn allAlong written
+    queue.stateAfter queue.goesIn queue.madeIn next passed lastOf isSoon isLate firstPrediction isReady saysOf groundsOf prediction.answerIn answerIn good ticks.wafersFrom ticks.wafersIn ticks.totalOf
+    ticks.roundedUp ticks.fits ticks.good allAlong written
     ownFacts allFacts belowIn stateAfter smooth after holds
 all-cases = refl
 

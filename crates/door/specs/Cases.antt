@@ -11,26 +11,33 @@ use Rattle.rules.specs.Inputs.{MoveIn, Open}
 use Rattle.rules.specs.Inputs.{A, accessed}
 use Rattle.queue.specs.Cases.{CancelCarrierOut}
 use Rattle.prediction.specs.State.{Timed, timed, start}
-use Rattle.prediction.specs.Outcome.{answerIn}
+use Rattle.wafers.specs.Outcome.{Brought, brought, answerIn}
 use Rattle.prediction.specs.Cases.{plain, PredictedTime, Estimate, NoPrediction, smooth, after}
 use Rattle.door.specs.Door.{shown, mayPadRun}
 
 -- A run of inputs that are accepted, and one more with its answer.
 pub record Case : Type 0 where
   pub before : List Timed
-  pub input : Timed
+  pub input : Brought
   pub answer : ℕ
 
 abbrev timedCase : List Timed → Timed → ℕ → Case
-timedCase before input answer = record { before = before; input = input; answer = answer }
+timedCase before input answer = record { before = before; input = brought input []; answer = answer }
+
+-- no wafers, of a name
+abbrev waferCase : List Timed → List ℕ → ℕ → Case
+waferCase before name answer = timedCase before (timed (inputOf 35 0 0 name []) 5 0) answer
+
+abbrev seen : Timed → Timed
+seen i = shown (brought i []) .timed
 
 abbrev case : List Input → Input → ℕ → Case
 case before input answer = timedCase (map plain before) (plain input) answer
 
 -- one port, so many places, and a minute before a carrier is ready
 unfoldable pub holds : ℕ → Case → Bool
-holds places c = smooth (start 1 places 60 0) (map shown (c .before))
-    && eqb (answerIn (after (start 1 places 60 0) (map shown (c .before))) (shown (c .input))) (c .answer)
+holds places c = smooth (start 1 places 60 0) (map seen (c .before))
+    && eqb (answerIn (after (start 1 places 60 0) (map seen (c .before))) (shown (c .input))) (c .answer)
 
 abbrev AB : List ℕ
 AB = 0x41 ∷ 0x42 ∷ []
@@ -66,7 +73,7 @@ cases =
     ∷ case [] (inputOf 13 1 0 (replicate 40 0) []) 0
     ∷ []
 
--- A is IN ACCESS at port 1: 32 to 34 take the name that remains; 31 ignores it, however bad
+-- A is IN ACCESS at port 1: 32 to 35 take the name that remains; 31 ignores it, however bad
 abbrev inAccess : List Timed
 inAccess = map plain accessed
 
@@ -81,6 +88,9 @@ timedCases =
     ∷ timedCase (inAccess ++ PredictedTime 5 A 90 ∷ []) (Estimate 6 (A ++ blanks 1) 99) 0
     ∷ timedCase inAccess (timed (inputOf 31 0 0 (replicate 40 0) []) 5 0) 0
     ∷ timedCase inAccess (timed (inputOf 31 0 0 (blanks 1) []) 5 0) 0
+    ∷ waferCase inAccess (A ++ blanks 3) 0
+    ∷ waferCase inAccess (A ++ blanks 32) 1
+    ∷ waferCase inAccess (blanks 1 ++ A) 1
     ∷ []
 
 -- with a place in the buffer: AB is moved there and queued
@@ -103,11 +113,11 @@ queueCases =
 -- ── What may be padded: any name within 32 bytes, a bad one too, but none that is missing ──
 pub record Pads : Type 0 where
   pub blanks : List ℕ
-  pub run : List Timed
+  pub run : List Brought
   pub may : Bool
 
 abbrev pads : List ℕ → List Input → Bool → Pads
-pads blanks run may = record { blanks = blanks; run = map plain run; may = may }
+pads blanks run may = record { blanks = blanks; run = map (λ i. brought (plain i) []) run; may = may }
 
 unfoldable pub padsHold : Pads → Bool
 padsHold p = cond (p .may) (mayPadRun (p .blanks) (p .run)) (not (mayPadRun (p .blanks) (p .run)))

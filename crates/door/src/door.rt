@@ -3,6 +3,7 @@ ghost use mathlib.Core.Path.{_≡_};
 ghost use Rattle.rules.specs.Seen.{inputOf};
 ghost use Rattle.image.specs.Image.{reportsFrom};
 ghost use Rattle.prediction.specs.State.{timed};
+ghost use Rattle.wafers.specs.Outcome.{brought};
 ghost use Rattle.tool.specs.Whole.{wholeIn};
 ghost use Rattle.door.specs.Door.{outcome};
 use follow::blocks::BLOCKS;
@@ -20,14 +21,26 @@ pub fn door_step(
     codes: &[u8],
     clock: u32,
     time: u32,
+    times: &[f64],
 ) -> u8
     ensures { λ r. ⌜ wholeIn (now (m .exit)) ≡ outcome (wholeIn (now (m .entry)))
-        (timed (inputOf number port value (now (name .entry)) (now (codes .entry))) clock time) .tool ⌝ }
+        (brought (timed (inputOf number port value (now (name .entry)) (now (codes .entry))) clock time) (now (times .entry))) .tool ⌝ }
     ensures { λ r. ⌜ reportsFrom (now (o .exit)) ≡ outcome (wholeIn (now (m .entry)))
-        (timed (inputOf number port value (now (name .entry)) (now (codes .entry))) clock time) .reports ⌝ }
+        (brought (timed (inputOf number port value (now (name .entry)) (now (codes .entry))) clock time) (now (times .entry))) .reports ⌝ }
     ensures { λ r. ⌜ r ≡ outcome (wholeIn (now (m .entry)))
-        (timed (inputOf number port value (now (name .entry)) (now (codes .entry))) clock time) .answer ⌝ }
+        (brought (timed (inputOf number port value (now (name .entry)) (now (codes .entry))) clock time) (now (times .entry))) .answer ⌝ }
 {
     let n = shortened_length(name);
-    whole_step(m, o, number, port, value, &name[..n], codes, clock, time)
+    whole_step(
+        m,
+        o,
+        number,
+        port,
+        value,
+        &name[..n],
+        codes,
+        clock,
+        time,
+        times,
+    )
 }

@@ -5,7 +5,7 @@ use mathlib.Core.Logic.{_≢_}
 use mathlib.Core.Bool.{true}
 use mathlib.Core.List.{List}
 use lib.ListN.{replicate}
-use Rattle.prediction.specs.State.{Timed}
+use Rattle.wafers.specs.Outcome.{Brought}
 use Rattle.image.proofs.Only.{reported-byte}
 use Rattle.image.proofs.Reported.{none-reported}
 use Rattle.tool.specs.Whole.{wholeIn}
@@ -21,7 +21,7 @@ same-tool : (a b : List (List ℕ)) → OfBytes a → OfBytes b → wholeIn a �
 same-tool a b f g e = (first-bytes a b e, second-bytes a b f g e)
 
 -- A refused input leaves every byte of the tool as it was, and a report list of zeros.
-pub refused-leaves : (before : List (List ℕ)) (i : Timed) (r : ℕ) (after : List (List ℕ)) (reports : List ℕ)
+pub refused-leaves : (before : List (List ℕ)) (i : Brought) (r : ℕ) (after : List (List ℕ)) (reports : List ℕ)
     → OfBytes before → OfBytes after → StepCall before i r after reports → r ≢ 0
     → SameTool after before × SameBytes 201 reports (replicate 201 0)
 unfolding outcome
@@ -47,7 +47,7 @@ exchange-leaves before m room r after reports items left length f g s n =
     (same-tool after before g f (s .tool ∙ o .0), reported-byte reports (replicate 201 0) (s .told ∙ o .1 ∙ sym none-reported))
 
 -- Two calls that meet the same bytes with the same input give the same answer, and leave the same bytes and the same report list.
-pub same-again : (before : List (List ℕ)) (i : Timed) (r r′ : ℕ) (after after′ : List (List ℕ)) (reports reports′ : List ℕ)
+pub same-again : (before : List (List ℕ)) (i : Brought) (r r′ : ℕ) (after after′ : List (List ℕ)) (reports reports′ : List ℕ)
     → OfBytes after → OfBytes after′ → StepCall before i r after reports → StepCall before i r′ after′ reports′
     → (r ≡ r′) × SameTool after after′ × SameBytes 201 reports reports′
 same-again before i r r′ after after′ reports reports′ f g s t = (
@@ -57,7 +57,7 @@ same-again before i r r′ after after′ reports reports′ f g s t = (
 )
 
 -- And so where the name of one is padded, and the other's plain.
-pub padded-again : (before : List (List ℕ)) (i : Timed) (n r r′ : ℕ) (after after′ : List (List ℕ)) (reports reports′ : List ℕ)
+pub padded-again : (before : List (List ℕ)) (i : Brought) (n r r′ : ℕ) (after after′ : List (List ℕ)) (reports reports′ : List ℕ)
     → OfBytes after → OfBytes after′ → mayPad n i ≡ true → StepCall before i r after reports → StepCall before (padded n i) r′ after′ reports′
     → (r ≡ r′) × SameTool after after′ × SameBytes 201 reports reports′
 padded-again before i n r r′ after after′ reports reports′ f g m s t =

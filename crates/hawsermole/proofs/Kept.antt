@@ -13,9 +13,13 @@ use Rattle.rules.specs.History.{Event, history}
 use Rattle.rules.specs.Promise.{Live, Orderly}
 use Rattle.maps.specs.Promise.{Earned}
 use Rattle.prediction.specs.State.{Predicted, baseOf, PredictedTool, stateOf, Timed, timed, start}
-use Rattle.prediction.specs.Outcome.{answerIn, stateAfter, reportsIn, refused, accepted, givenIn, reached}
+use Rattle.prediction.specs.Outcome as prediction
+use Rattle.prediction.specs.Outcome.{refused, accepted}
 use Rattle.prediction.specs.Promise.{events}
 use Rattle.prediction.proofs.Promised.{promised}
+use Rattle.wafers.specs.Outcome.{Brought, brought, answerIn, stateAfter, reportsIn, givenIn}
+use Rattle.wafers.specs.Projection.{cutDown}
+use Rattle.wafers.proofs.Projected.{below, cut-on, stands, answers-below}
 use Rattle.tool.specs.Whole as tool
 use Rattle.tool.specs.Whole.{Whole, wholeIn, soundWhole, setUp, reachedWhole}
 use Rattle.tool.proofs.Tested.{when-sound}
@@ -43,7 +47,7 @@ use Rattle.hawsermole.specs.Calls.{
 }
 
 -- a sound tool answers as its state does
-given-answer : (t : PredictedTool) (i : Timed) → givenIn t i .answer ≡ answerIn (stateOf t) i
+given-answer : (t : PredictedTool) (i : Brought) → givenIn t i .answer ≡ answerIn (stateOf t) i
 unfolding givenIn
 given-answer t i = go (eqb (answerIn (stateOf t) i) 0) refl
   where
@@ -52,11 +56,11 @@ given-answer t i = go (eqb (answerIn (stateOf t) i) 0) refl
     go true e = sym (eqb-true _ 0 e)
     go false e = refl
 
-answer-is : (t : Whole) (i : Timed) → soundWhole t ≡ true → tool.outcome t i .answer ≡ answerIn (stateOf (t .layered)) i
+answer-is : (t : Whole) (i : Brought) → soundWhole t ≡ true → tool.outcome t i .answer ≡ answerIn (stateOf (t .layered)) i
 answer-is t i h = ap (λ o. o .answer) (sym (when-sound t i h)) ∙ given-answer (t .layered) i
 
 -- as the rows saw them
-unfoldable inputs : List Call → List Timed
+unfoldable inputs : List Call → List Brought
 inputs [] = []
 inputs (c ∷ earlier) = taken (c .sent) (c .answer) ++ inputs earlier
 
@@ -84,19 +88,19 @@ module _ (before : List (List ℕ)) (answer : ℕ) (after : List (List ℕ)) (re
       let f : answer ≡ 14 = eqb-true answer 14 w in
       k .tool ∙ exchange-refuses (wholeIn before) m room (λ z. fourteen-not-0 (sym f ∙ k .answered ∙ z)) .0
 
-  after-text : (m : List ℕ) (items : ℕ) → SecsCall before m answer after reports items → (earlier : List Timed) (t : Whole)
+  after-text : (m : List ℕ) (items : ℕ) → SecsCall before m answer after reports items → (earlier : List Brought) (t : Whole)
       → wholeIn before ≡ reachedWhole t earlier → wholeIn after ≡ reachedWhole t (read m ++ earlier)
   unfolding read outcome reachedWhole bridged
   after-text m items k earlier t e = go (eqb (requestIn m .refusal) 0) (k .tool)
     where
       go : (w : Bool)
           → wholeIn after
-          ≡ cond w (outcome (wholeIn before) (timed (requestIn m .input) 0 0)) (tool.refused (wholeIn before) (requestIn m .refusal)) .tool
-          → wholeIn after ≡ reachedWhole t (cond w (shown (timed (requestIn m .input) 0 0) ∷ []) [] ++ earlier)
-      go true q = q ∙ ap (λ t. tool.outcome t (shown (timed (requestIn m .input) 0 0)) .tool) e
+          ≡ cond w (outcome (wholeIn before) (brought (timed (requestIn m .input) 0 0) [])) (tool.refused (wholeIn before) (requestIn m .refusal)) .tool
+          → wholeIn after ≡ reachedWhole t (cond w (shown (brought (timed (requestIn m .input) 0 0) []) ∷ []) [] ++ earlier)
+      go true q = q ∙ ap (λ t. tool.outcome t (shown (brought (timed (requestIn m .input) 0 0) [])) .tool) e
       go false q = q ∙ e
 
-  tool-after : (sent : Sent) → Made before sent answer after reports → (earlier : List Timed) (t : Whole)
+  tool-after : (sent : Sent) → Made before sent answer after reports → (earlier : List Brought) (t : Whole)
       → wholeIn before ≡ reachedWhole t earlier → wholeIn after ≡ reachedWhole t (taken sent answer ++ earlier)
   unfolding taken outcome reachedWhole
   tool-after (typed i) k earlier t e = k .tool ∙ ap (λ t. tool.outcome t (shown i) .tool) e
@@ -110,33 +114,38 @@ module _ (before : List (List ℕ)) (answer : ℕ) (after : List (List ℕ)) (re
   abbrev happens : Timed → Predicted → ℕ → Event
   happens i s a = record { before = baseOf s; input = i .input; answer = a }
 
-  -- an input that was answered as the tool answers is the run's next event
-  event-after : (i : Timed) → answer ≡ tool.outcome (wholeIn before) i .answer → (P B setting timeout : ℕ) (earlier : List Timed)
-      → soundWhole (wholeIn before) ≡ true → stateIn before ≡ reached (start P B setting timeout) earlier
-      → happens i (stateIn before) answer ∷ events (start P B setting timeout) earlier ≡ events (start P B setting timeout) (i ∷ earlier)
-  unfolding events
+  -- an input that was answered as the tool answers is the run's next event, by what it stands for
+  event-after : (i : Brought) → answer ≡ tool.outcome (wholeIn before) i .answer → (P B setting timeout : ℕ) (earlier : List Timed)
+      → soundWhole (wholeIn before) ≡ true → stateIn before ≡ prediction.reached (start P B setting timeout) earlier
+      → map (λ j. happens j (stateIn before) answer) (cutDown (i ∷ [])) ++ events (start P B setting timeout) earlier
+      ≡ events (start P B setting timeout) (cutDown (i ∷ []) ++ earlier)
+  unfolding events cutDown
   event-after i k P B setting timeout earlier h e =
-      ap (λ a. happens i (stateIn before) a ∷ events (start P B setting timeout) earlier) (k ∙ answer-is (wholeIn before) i h)
-      ∙ ap (λ s. happens i s (answerIn s i) ∷ events (start P B setting timeout) earlier) e
+      stands i (λ l. map (λ j. happens j (stateIn before) answer) (l ++ []) ++ events (start P B setting timeout) earlier
+      ≡ events (start P B setting timeout) ((l ++ []) ++ earlier)) refl
+      (λ x q. ap (λ a. happens x (stateIn before) a ∷ events (start P B setting timeout) earlier)
+      (k ∙ answer-is (wholeIn before) i h ∙ answers-below (stateIn before) i x q)
+      ∙ ap (λ s. happens x s (prediction.answerIn s x) ∷ events (start P B setting timeout) earlier) e)
 
   -- the inputs that a call brought are the run's next events
   module _ (P B setting timeout : ℕ) (earlier : List Timed) (h : soundWhole (wholeIn before) ≡ true)
-      (e : stateIn before ≡ reached (start P B setting timeout) earlier) where
-    abbrev Next : List Timed → Type 0
-    Next is = map (λ i. happens i (stateIn before) answer) is ++ events (start P B setting timeout) earlier ≡ events (start P B setting timeout) (is ++ earlier)
+      (e : stateIn before ≡ prediction.reached (start P B setting timeout) earlier) where
+    abbrev Next : List Brought → Type 0
+    Next is = map (λ i. happens i (stateIn before) answer) (cutDown is) ++ events (start P B setting timeout) earlier
+        ≡ events (start P B setting timeout) (cutDown is ++ earlier)
 
     text-events : (m : List ℕ) (items : ℕ) → SecsCall before m answer after reports items → Next (read m)
-    unfolding read outcome bridged
+    unfolding read outcome bridged cutDown
     text-events m items k = go (eqb (requestIn m .refusal) 0) (k .answered)
       where
         go : (w : Bool)
-            → answer ≡ cond w (outcome (wholeIn before) (timed (requestIn m .input) 0 0)) (tool.refused (wholeIn before) (requestIn m .refusal)) .answer
-            → Next (cond w (shown (timed (requestIn m .input) 0 0) ∷ []) [])
-        go true q = event-after (shown (timed (requestIn m .input) 0 0)) q P B setting timeout earlier h e
+            → answer ≡ cond w (outcome (wholeIn before) (brought (timed (requestIn m .input) 0 0) [])) (tool.refused (wholeIn before) (requestIn m .refusal)) .answer
+            → Next (cond w (shown (brought (timed (requestIn m .input) 0 0) []) ∷ []) [])
+        go true q = event-after (shown (brought (timed (requestIn m .input) 0 0) [])) q P B setting timeout earlier h e
         go false q = refl
 
     events-after : (sent : Sent) → Made before sent answer after reports → Next (taken sent answer)
-    unfolding taken outcome
+    unfolding taken outcome cutDown
     events-after (typed i) k = event-after (shown i) (k .answered) P B setting timeout earlier h e
     events-after (text m items) k = text-events m items k
     events-after (lent m room items left length) k = go (eqb answer 14) refl
@@ -165,17 +174,21 @@ module _ (P B setting timeout : ℕ) where
     sound-is : soundWhole (wholeIn bytes) ≡ true
     sound-is = ap soundWhole (tool-is calls bytes l) ∙ tool-sound P B setting timeout (set-up calls bytes l) (inputs calls)
 
-    state-is : stateIn bytes ≡ reached (start P B setting timeout) (inputs calls)
-    state-is = ap (λ t. stateOf (t .layered)) (tool-is calls bytes l) ∙ tool-holds P B setting timeout (set-up calls bytes l) (inputs calls)
+    state-is : stateIn bytes ≡ prediction.reached (start P B setting timeout) (cutDown (inputs calls))
+    state-is =
+        ap (λ t. stateOf (t .layered)) (tool-is calls bytes l) ∙ tool-holds P B setting timeout (set-up calls bytes l) (inputs calls)
+        ∙ below (start P B setting timeout) (inputs calls)
 
   -- what happened in the calls is what happens by the definitions
-  events-are : (calls : List Call) (bytes : List (List ℕ)) → Left P B setting timeout calls bytes → happened calls ≡ events (start P B setting timeout) (inputs calls)
-  unfolding Left happened inputs events
+  events-are : (calls : List Call) (bytes : List (List ℕ)) → Left P B setting timeout calls bytes
+      → happened calls ≡ events (start P B setting timeout) (cutDown (inputs calls))
+  unfolding Left happened inputs events cutDown
   events-are [] bytes l = refl
   events-are (c ∷ earlier) bytes l =
       ap (λ es. eventsOf c ++ es) (events-are earlier (c .before) (l .0))
-      ∙ events-after (c .before) (c .answer) bytes (c .reports) P B setting timeout (inputs earlier) (sound-is earlier (c .before) (l .0))
+      ∙ events-after (c .before) (c .answer) bytes (c .reports) P B setting timeout (cutDown (inputs earlier)) (sound-is earlier (c .before) (l .0))
       (state-is earlier (c .before) (l .0)) (c .sent) (l .1)
+      ∙ ap (events (start P B setting timeout)) (sym (cut-on (taken (c .sent) (c .answer)) (inputs earlier)))
 
 -- each carrier of a state has behind it what happened
 abbrev Backed : Predicted → List Event → Type 0
@@ -184,12 +197,12 @@ Backed s es = (k : ℕ) → Live (baseOf s) k → Earned (history (recordOf (bas
 pub kept : (P B setting timeout : ℕ) (calls : List Call) (bytes : List (List ℕ)) → Left P B setting timeout calls bytes → Kept P B calls bytes
 kept P B setting timeout calls bytes l =
     let f = valid P B setting timeout (set-up P B setting timeout calls bytes l) in
-    let p = promised P B setting timeout (f .0) (f .1) (f .2) (inputs calls) in
+    let p = promised P B setting timeout (f .0) (f .1) (f .2) (cutDown (inputs calls)) in
     let s = sym (state-is P B setting timeout calls bytes l) in
     record {
       sound = sound-is P B setting timeout calls bytes l;
       orderly = subst (λ s. Orderly (baseOf s)) s (p .orderly);
       few = subst (λ s. length (baseOf s .carriers) ≤ P + B + 16) s (p .few);
       earned = subst (λ s. Backed s (happened calls)) s
-          (subst (Backed (reached (start P B setting timeout) (inputs calls))) (sym (events-are P B setting timeout calls bytes l)) (p .earned));
+          (subst (Backed (prediction.reached (start P B setting timeout) (cutDown (inputs calls)))) (sym (events-are P B setting timeout calls bytes l)) (p .earned));
     }

@@ -5,14 +5,17 @@ use mathlib.Core.Bool.{true, cond}
 use mathlib.Core.List.{List, [], _∷_, _++_, map}
 use lib.ListN.{length, getD}
 use lib.Dec.{eqb}
+use lib.Ieee.{Float}
 use Rattle.rules.specs.State.{recordOf}
 use Rattle.rules.specs.Seen.{inputOf}
 use Rattle.rules.specs.History.{Event, history}
 use Rattle.rules.specs.Promise.{Live, Orderly}
 use Rattle.image.specs.Image.{byteAt, toolFrom, reportsFrom}
 use Rattle.logs.specs.Judging.{Judgement}
-use Rattle.prediction.specs.State.{Predicted, baseOf, stateOf, Timed, timed}
+use Rattle.prediction.specs.State.{Predicted, baseOf, stateOf, timed}
 use Rattle.prediction.specs.Outcome.{isTimed}
+use Rattle.wafers.specs.Outcome.{Brought, brought}
+use Rattle.wafers.specs.Projection.{cutDown}
 use Rattle.maps.specs.Promise.{Earned}
 use Rattle.tool.specs.Whole.{wholeIn, soundWhole, setUp}
 use Rattle.door.specs.Door.{shown, outcome}
@@ -27,11 +30,15 @@ pub record SetUpCall (ports places setting timeout answer : ℕ) (after : List (
   pub answered : answer ≡ setUp ports places setting timeout .answer
 
 -- What hm_time_step is asked for: an input that brings a clock. Any other number is none of them, and answered 1.
-abbrev pub bringingClock : ℕ → ℕ → List ℕ → ℕ → Timed
-bringingClock number clock name time = timed (inputOf (cond (isTimed number) number 0) 0 0 name []) clock time
+abbrev pub bringingClock : ℕ → ℕ → List ℕ → ℕ → Brought
+bringingClock number clock name time = brought (timed (inputOf (cond (isTimed number) number 0) 0 0 name []) clock time) []
 
--- What hm_step and hm_time_step ensure: the tool that it leaves, its reports and its answer are those of the input's outcome.
-pub record StepCall (before : List (List ℕ)) (input : Timed) (answer : ℕ) (after : List (List ℕ)) (reports : List ℕ) : Type 0 where
+-- And hm_wafers_step: 35, with the times of wafers.
+abbrev pub bringingWafers : ℕ → List ℕ → List Float → Brought
+bringingWafers clock name times = brought (timed (inputOf 35 0 0 name []) clock 0) times
+
+-- What hm_step, hm_time_step and hm_wafers_step ensure: the tool that it leaves, its reports and its answer are those of the input's outcome.
+pub record StepCall (before : List (List ℕ)) (input : Brought) (answer : ℕ) (after : List (List ℕ)) (reports : List ℕ) : Type 0 where
   pub tool : wholeIn after ≡ outcome (wholeIn before) input .tool
   pub told : reportsFrom reports ≡ outcome (wholeIn before) input .reports
   pub answered : answer ≡ outcome (wholeIn before) input .answer
@@ -64,10 +71,10 @@ judgement says judged tool reports = record {
   last = record { tool = toolFrom tool; answer = getD judged 2 0; reports = reportsFrom reports };
 }
 
--- What a call brings: an input to hm_step or hm_time_step; a message to hm_secs_step, which counted so many items; or a message to hm_secs_exchange,
+-- What a call brings: an input to hm_step, hm_time_step or hm_wafers_step; a message to hm_secs_step, which counted so many items; or a message to hm_secs_exchange,
 -- with the room that was lent, the items that were counted, the room that was left and the length of the reply.
 pub data Sent : Type 0 where
-  typed : Timed → Sent
+  typed : Brought → Sent
   text : List ℕ → ℕ → Sent
   lent : List ℕ → List ℕ → ℕ → List ℕ → ℕ → Sent
 
@@ -96,19 +103,19 @@ abbrev pub stateIn : List (List ℕ) → Predicted
 stateIn bytes = stateOf (wholeIn bytes .layered)
 
 -- The input that rows saw: a message that the reader refuses brings none.
-unfoldable pub read : List ℕ → List Timed
-read message = cond (eqb (requestIn message .refusal) 0) (shown (timed (requestIn message .input) 0 0) ∷ []) []
+unfoldable pub read : List ℕ → List Brought
+read message = cond (eqb (requestIn message .refusal) 0) (shown (brought (timed (requestIn message .input) 0 0) []) ∷ []) []
 
 -- and none whose reply has no room
-unfoldable pub taken : Sent → ℕ → List Timed
+unfoldable pub taken : Sent → ℕ → List Brought
 taken (typed i) answer = shown i ∷ []
 taken (text message items) answer = read message
 taken (lent message room items left length) answer = cond (eqb answer 14) [] (read message)
 
--- What happened in a call: the answer is the one that the call gave.
+-- What happened in a call: the answer is the one that the call gave; 35 counts as the input that it stands for.
 abbrev pub eventsOf : Call → List Event
 eventsOf c =
-    map (λ i. record { before = baseOf (stateIn (c .before)); input = i .input; answer = c .answer }) (taken (c .sent) (c .answer))
+    map (λ i. record { before = baseOf (stateIn (c .before)); input = i .input; answer = c .answer }) (cutDown (taken (c .sent) (c .answer)))
 
 unfoldable pub happened : List Call → List Event
 happened [] = []

@@ -7,10 +7,12 @@ ghost use Rattle.items.specs.Reading.{readMessage};
 ghost use Rattle.logs.specs.Judging.{judge};
 ghost use Rattle.names.specs.Check.{nameLength};
 ghost use Rattle.waiting.specs.Waiting.{answerIn, foundIn};
+ghost use mathlib.Core.List.{[]};
 ghost use Rattle.prediction.specs.State.{timed};
+ghost use Rattle.wafers.specs.Outcome.{brought};
 ghost use Rattle.prediction.specs.Outcome.{isTimed};
 ghost use Rattle.tool.specs.Whole.{wholeIn, soundWhole};
-ghost use Rattle.hawsermole.specs.Calls.{SetUpCall, StepCall, bringingClock, SecsCall, ExchangeCall, judgement};
+ghost use Rattle.hawsermole.specs.Calls.{SetUpCall, StepCall, bringingClock, bringingWafers, SecsCall, ExchangeCall, judgement};
 ghost use Rattle.replies.specs.Reply.{replyText, Wrote};
 use bridge::bridge::bridge_step;
 use bridge::exchange::exchange;
@@ -28,12 +30,12 @@ use waiting::found::before_end;
 use waiting::found::stopped_at;
 use waiting::found::waits_for_host;
 
-// 0x00MMmmpp: 0.10.0, HM_VERSION of the header that belongs to it.
+// 0x00MMmmpp: 0.11.0, HM_VERSION of the header that belongs to it.
 #[no_mangle]
 pub extern "C" fn hm_version() -> u32
-    ensures { λ r. ⌜ r ≡ 2560 ⌝ }
+    ensures { λ r. ⌜ r ≡ 2816 ⌝ }
 {
-    0x000A00
+    0x000B00
 }
 
 #[no_mangle]
@@ -88,10 +90,11 @@ pub extern "C" fn hm_step(
     name: &[u8],
     codes: &[u8],
 ) -> u32
-    ensures { λ r. ⌜ StepCall (now (tool .entry)) (timed (inputOf number port value (now (name .entry)) (now (codes .entry))) 0 0)
+    ensures { λ r. ⌜ StepCall (now (tool .entry)) (brought (timed (inputOf number port value (now (name .entry)) (now (codes .entry))) 0 0) [])
         r (now (tool .exit)) (now (reports .exit)) ⌝ }
 {
-    let answer = door_step(tool, reports, number, port, value, name, codes, 0, 0);
+    let none = [0.0; 0];
+    let answer = door_step(tool, reports, number, port, value, name, codes, 0, 0, &none);
     answer as u32
 }
 
@@ -109,6 +112,7 @@ pub extern "C" fn hm_time_step(
         r (now (tool .exit)) (now (reports .exit)) ⌝ }
 {
     let none = [0; 0];
+    let untimed = [0.0; 0];
     let answer = door_step(
         tool,
         reports,
@@ -119,7 +123,25 @@ pub extern "C" fn hm_time_step(
         &none,
         clock,
         time,
+        &untimed,
     );
+    answer as u32
+}
+
+// 35: Tp comes from the times of up to 25 wafers, a process time and a handling time each, in turn.
+#[no_mangle]
+pub extern "C" fn hm_wafers_step(
+    tool: &mut [[u8; 1891]; 2],
+    reports: &mut [u8; 201],
+    clock: u32,
+    name: &[u8],
+    times: &[f64],
+) -> u32
+    ensures { λ r. ⌜ StepCall (now (tool .entry)) (bringingWafers clock (now (name .entry)) (now (times .entry)))
+        r (now (tool .exit)) (now (reports .exit)) ⌝ }
+{
+    let none = [0; 0];
+    let answer = door_step(tool, reports, 35, 0, 0, name, &none, clock, 0, times);
     answer as u32
 }
 

@@ -4,13 +4,14 @@ use mathlib.Core.Logic.{_≢_}
 use mathlib.Core.Bool.{Bool, true, false, cond}
 use lib.Dec.{eqb}
 use Rattle.rules.specs.Reports.{noReports}
-use Rattle.prediction.specs.State.{PredictedTool, stateOf, Timed}
-use Rattle.prediction.specs.Outcome.{Given, answerIn, stateAfter, reportsIn, accepted, givenIn}
+use Rattle.prediction.specs.State.{PredictedTool, stateOf}
+use Rattle.prediction.specs.Outcome.{Given, accepted}
 use Rattle.prediction.specs.Outcome as prediction
+use Rattle.wafers.specs.Outcome.{Brought, answerIn, stateAfter, reportsIn, givenIn}
 use Rattle.tool.specs.Whole.{Whole, soundWhole, refused, around, Outcome, outcome}
 
 -- what isn't answered with 0 leaves the tool, and reports nothing
-given-refuses : (t : PredictedTool) (i : Timed) → givenIn t i .answer ≢ 0 → (givenIn t i .tool ≡ t) × (givenIn t i .reports ≡ noReports)
+given-refuses : (t : PredictedTool) (i : Brought) → givenIn t i .answer ≢ 0 → (givenIn t i .tool ≡ t) × (givenIn t i .reports ≡ noReports)
 unfolding givenIn
 given-refuses t i = go (eqb (answerIn (stateOf t) i) 0)
   where
@@ -24,7 +25,7 @@ given-refuses t i = go (eqb (answerIn (stateOf t) i) 0)
 abbrev pub Refuses : Whole → Outcome → Type 0
 Refuses t o = o .answer ≢ 0 → (o .tool ≡ t) × (o .reports ≡ noReports)
 
-module _ (t : Whole) (i : Timed) where
+module _ (t : Whole) (i : Brought) where
   pub refuses : Refuses t (outcome t i)
   unfolding outcome
   refuses = go (soundWhole t)

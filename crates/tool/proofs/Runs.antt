@@ -12,10 +12,11 @@ use Rattle.lists.proofs.Bools.{and-l, and-r, and-i}
 use Rattle.rules.specs.declared.tool.Setup as base-setup
 use Rattle.rules.specs.State as base
 use Rattle.passes.specs.Passes.{isZero}
-use Rattle.prediction.specs.State.{stateOf, start, Timed}
+use Rattle.prediction.specs.State.{stateOf, start}
 use Rattle.prediction.specs.Sound.{isSpan, soundTool}
-use Rattle.prediction.specs.Outcome.{stateAfter, reached}
-use Rattle.prediction.proofs.SoundTools.{given-state, given-sound, setup-sound, setup-state}
+use Rattle.prediction.proofs.SoundTools.{setup-sound, setup-state}
+use Rattle.wafers.specs.Outcome.{Brought, stateAfter, reached}
+use Rattle.wafers.proofs.SoundTools.{given-state, given-sound}
 use Rattle.tool.specs.Whole.{Whole, soundWhole, Setup, fresh, setUp, outcome, reachedWhole}
 use Rattle.tool.proofs.Tested.{when-sound}
 
@@ -24,7 +25,7 @@ unfolding every
 zeros-zero zero = refl
 zeros-zero (suc n) = zeros-zero n
 
-module _ (t : Whole) (i : Timed) (h : soundWhole t ≡ true) where
+module _ (t : Whole) (i : Brought) (h : soundWhole t ≡ true) where
   layered-is-sound : soundTool (t .layered) ≡ true
   unfolding soundWhole
   layered-is-sound = and-l _ _ h
@@ -80,12 +81,12 @@ module _ (P B setting timeout : ℕ) where
     spans : (isSpan setting && isSpan timeout) ≡ true
     spans = and-r (eqb (base.setUp P B .answer) 0) _ (fine yes)
 
-    pub tool-sound : (past : List Timed) → soundWhole (reachedWhole tool past) ≡ true
+    pub tool-sound : (past : List Brought) → soundWhole (reachedWhole tool past) ≡ true
     unfolding reachedWhole soundWhole
     tool-sound [] = rw (tool-is (fine yes)) (and-i (setup-sound P B setting timeout below spans) (zeros-zero 294))
     tool-sound (i ∷ earlier) = sound-after (reachedWhole tool earlier) i (tool-sound earlier)
 
-    pub tool-holds : (past : List Timed) → stateOf (reachedWhole tool past .layered) ≡ reached (start P B setting timeout) past
+    pub tool-holds : (past : List Brought) → stateOf (reachedWhole tool past .layered) ≡ reached (start P B setting timeout) past
     unfolding reachedWhole reached
     tool-holds [] = rw (tool-is (fine yes)) (setup-state P B setting timeout below spans)
     tool-holds (i ∷ earlier) = state-after (reachedWhole tool earlier) i (tool-sound earlier) ∙ rw (tool-holds earlier)

@@ -34,9 +34,9 @@ use Rattle.line.proofs.Tested.{line-tested}
 use Rattle.queued.specs.Bytes.{queuedIn}
 use Rattle.prediction.specs.declared.prediction.Prediction.{Prediction}
 use Rattle.prediction.specs.declared.prediction.Times.{Times}
-use Rattle.prediction.specs.State.{PredictedTool, Timed}
+use Rattle.prediction.specs.State.{PredictedTool}
 use Rattle.prediction.specs.Sound.{timesInRange, soundTool}
-use Rattle.prediction.specs.Outcome.{givenIn}
+use Rattle.wafers.specs.Outcome.{Brought, givenIn}
 use Rattle.times.specs.Bytes.{timesFrom, predictionsFrom}
 use Rattle.times.specs.Tests.{soundPredictions}
 use Rattle.times.proofs.Tested.{predictions-tested}
@@ -109,11 +109,11 @@ pub layered-sound : (m : List (List ℕ)) → soundWhole (wholeIn m) ≡ true �
 unfolding soundWhole
 layered-sound m h = and-l _ _ h
 
-pub when-sound : (t : Whole) (i : Timed) → soundWhole t ≡ true → around t (givenIn (t .layered) i) ≡ outcome t i
+pub when-sound : (t : Whole) (i : Brought) → soundWhole t ≡ true → around t (givenIn (t .layered) i) ≡ outcome t i
 unfolding outcome
 when-sound t i h = rw h
 
-pub when-not : (t : Whole) (i : Timed) → soundWhole t ≡ false → refused t 1 ≡ outcome t i
+pub when-not : (t : Whole) (i : Brought) → soundWhole t ≡ false → refused t 1 ≡ outcome t i
 unfolding outcome
 when-not t i h = rw h
 

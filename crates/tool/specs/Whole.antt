@@ -14,10 +14,11 @@ use Rattle.passes.specs.Passes.{isZero}
 use Rattle.maps.specs.State.{noMaps}
 use Rattle.mapped.specs.Bytes.{ownIn}
 use Rattle.queue.specs.State.{noRequests}
-use Rattle.prediction.specs.State.{PredictedTool, noPredictions, Timed}
+use Rattle.prediction.specs.State.{PredictedTool, noPredictions}
 use Rattle.prediction.specs.Sound.{isSpan, soundTool}
-use Rattle.prediction.specs.Outcome.{Given, givenIn}
+use Rattle.prediction.specs.Outcome.{Given}
 use Rattle.predicted.specs.Bytes.{predictedIn}
+use Rattle.wafers.specs.Outcome.{Brought, givenIn}
 
 -- Document 01's tool with the expected maps, the queue, the times and the predictions, and the bytes that no request uses.
 pub record Whole : Type 0 where
@@ -75,10 +76,10 @@ around t g = record {
 }
 
 -- an input to any tool: one that isn't sound refuses it with 1
-unfoldable pub outcome : Whole → Timed → Outcome
+unfoldable pub outcome : Whole → Brought → Outcome
 outcome t i = cond (soundWhole t) (around t (givenIn (t .layered) i)) (refused t 1)
 
 -- The tool that a run of inputs has reached, the latest input first.
-unfoldable pub reachedWhole : Whole → List Timed → Whole
+unfoldable pub reachedWhole : Whole → List Brought → Whole
 reachedWhole t [] = t
 reachedWhole t (i ∷ earlier) = outcome (reachedWhole t earlier) i .tool

@@ -5,6 +5,7 @@ ghost use lib.ListN.{replicate};
 ghost use Rattle.rules.specs.Seen.{inputOf};
 ghost use Rattle.image.specs.Image.{reportsFrom};
 ghost use Rattle.prediction.specs.State.{timed};
+ghost use Rattle.wafers.specs.Outcome.{brought};
 ghost use Rattle.tool.specs.Whole.{wholeIn, soundWhole, setUp, outcome};
 use crate::layout::*;
 use follow::blocks::BLOCKS;
@@ -16,13 +17,13 @@ use line::sound::sound_queue;
 use machine::setup::setup;
 use mapped::kept::sound_maps;
 use passes::bytes::zeros;
-use predicted::step::predicted_step;
 use records::choose::wide;
 use soundness::whole::sound;
 use times::sound::sound_predictions;
 use times::sound::sound_times;
 use times::words::SPAN_MOST;
 use times::write::put_spans;
+use wafers::step::brought_step;
 
 // Whether all of it is sound: the one place where this is tested.
 pub fn whole_sound(m: &[[u8; TOOL_BYTES]; BLOCKS]) -> bool
@@ -89,16 +90,17 @@ pub fn whole_step(
     codes: &[u8],
     clock: u32,
     time: u32,
+    times: &[f64],
 ) -> u8
     ensures { λ r. ⌜ wholeIn (now (m .exit)) ≡ outcome (wholeIn (now (m .entry)))
-        (timed (inputOf number port value (now (name .entry)) (now (codes .entry))) clock time) .tool ⌝ }
+        (brought (timed (inputOf number port value (now (name .entry)) (now (codes .entry))) clock time) (now (times .entry))) .tool ⌝ }
     ensures { λ r. ⌜ reportsFrom (now (o .exit)) ≡ outcome (wholeIn (now (m .entry)))
-        (timed (inputOf number port value (now (name .entry)) (now (codes .entry))) clock time) .reports ⌝ }
+        (brought (timed (inputOf number port value (now (name .entry)) (now (codes .entry))) clock time) (now (times .entry))) .reports ⌝ }
     ensures { λ r. ⌜ r ≡ outcome (wholeIn (now (m .entry)))
-        (timed (inputOf number port value (now (name .entry)) (now (codes .entry))) clock time) .answer ⌝ }
+        (brought (timed (inputOf number port value (now (name .entry)) (now (codes .entry))) clock time) (now (times .entry))) .answer ⌝ }
 {
     if whole_sound(m) {
-        predicted_step(m, o, number, port, value, name, codes, clock, time)
+        brought_step(m, o, number, port, value, name, codes, clock, time, times)
     } else {
         no_reports(o);
         1

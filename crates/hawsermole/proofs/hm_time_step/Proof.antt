@@ -3,6 +3,7 @@ use mathlib.Core.Path.{_≡_, ap, _∙_}
 use mathlib.Core.List.{[]}
 use Rattle.rules.specs.Seen.{inputOf}
 use Rattle.prediction.specs.State.{timed}
+use Rattle.wafers.specs.Outcome.{brought}
 use Rattle.tool.specs.Whole.{wholeIn}
 use Rattle.door.specs.Door.{outcome}
 use Rattle.hawsermole.proofs.hm_time_step.Statement.{statement}
@@ -10,9 +11,9 @@ use Rattle.hawsermole.proofs.hm_time_step.Tie as tie
 
 returns : tie.Need-returns
 returns c =
-    let k = c .before .before in
+    let k = c .before .before .before in
     let a = k .before .before .before .before .args in
-    let o = ap (λ n. outcome (wholeIn (a .tool .now)) (timed (inputOf n 0 0 (a .name .now) []) (a .clock) (a .time))) (k .of-clock .ensures) in
+    let o = ap (λ n. outcome (wholeIn (a .tool .now)) (brought (timed (inputOf n 0 0 (a .name .now) []) (a .clock) (a .time)) [])) (k .of-clock .ensures) in
     let e = c .door-step .ensures in
     record {
       tool = e .0 ∙ ap (λ x. x .tool) o;
@@ -21,4 +22,4 @@ returns c =
     }
 
 pub hm-time-step-spec : {M : Type 1} → statement M
-hm-time-step-spec = tie.close (tie.spec (λ c κs. tt) (λ c. search needs) (λ c κs. tt) (λ c. search needs) returns)
+hm-time-step-spec = tie.close (tie.spec (λ c κs. tt) (λ c. search needs) (λ c. search needs) (λ c κs. tt) (λ c. search needs) returns)

@@ -1,12 +1,13 @@
 use borrow.Author.Needs.{needs}
 use native.Mathlib.Omega.{arith}
 use Prim.Native.Nat.{ℕ, _+_, _-_, _≤_}
-use mathlib.Core.Path.{_≡_, sym, ap, _∙_}
-use mathlib.Core.List.{List}
+use mathlib.Core.Path.{_≡_, refl, sym, ap, _∙_}
+use mathlib.Core.List.{List, []}
 use lib.ListN.{take, drop}
 use lib.Seq.{length-take-le}
 use Rattle.rules.specs.Seen.{inputOf}
-use Rattle.prediction.specs.State.{Timed, timed}
+use Rattle.prediction.specs.State.{timed}
+use Rattle.wafers.specs.Outcome.{Brought, brought}
 use Rattle.items.specs.Reading.{readMessage}
 use Rattle.items.proofs.Few.{item-few}
 use Rattle.secs.specs.Request.{requestIn}
@@ -42,14 +43,14 @@ slice-aggregate-door-step c =
 
 returns-2 : tie.Need-returns-2
 returns-2 c =
-    let i = c .before .before .before .before .before .before .before .before .before in
+    let i = c .before .before .before .before .before .before .before .before .before .before in
     let q = i .before .before .before in
     let s = q .before .before in
     let h = q .request-in .ensures in
     let r = q .request-in .result in
     let m = s .args .message .now in
     let z : r .at + r .many - r .at ≡ r .many = omega arith in
-    let input : List ℕ → Timed = λ name. timed (inputOf (r .number) (r .port) 0 name (take (r .coded) (r .codes))) 0 0 in
+    let input : List ℕ → Brought = λ name. brought (timed (inputOf (r .number) (r .port) 0 name (take (r .coded) (r .codes))) 0 0) [] in
     let part = ap (λ k. outcome (wholeIn (s .args .m .now)) (input (take k (drop (r .at) m)))) z in
     let o = part ∙ taken (wholeIn (s .args .m .now)) m r h (i .if1 .left) in
     let w = c .door-step .ensures in
@@ -59,4 +60,5 @@ pub bridge-step-spec : {M : Type 1} → statement M
 bridge-step-spec =
     tie.close
     (tie.spec (λ c κs. tt) cast-items (λ c κs. tt) returns (λ c. search needs) (λ c. search needs) (λ c. search needs)
-    (λ c. search needs) (λ c. search needs) (λ c. search needs) array-share-prefix-codes slice-aggregate-door-step (λ c κs. tt) returns-2)
+    (λ c. search needs) (λ c. search needs) (λ c. search needs) array-share-prefix-codes slice-aggregate-door-step
+    (λ c. refl) (λ c κs. tt) returns-2)

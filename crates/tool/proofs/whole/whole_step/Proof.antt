@@ -2,33 +2,36 @@ use native.Mathlib.Omega.{arith}
 use mathlib.Core.Path.{sym, ap, _∙_}
 use Rattle.rules.specs.Seen.{inputOf}
 use Rattle.mapped.specs.Bytes.{ownIn}
-use Rattle.prediction.specs.State.{Timed, timed}
+use Rattle.prediction.specs.State.{timed}
+use Rattle.wafers.specs.Outcome.{Brought, brought}
 use Rattle.prediction.specs.Outcome.{Given}
 use Rattle.tool.specs.Whole.{wholeIn}
 use Rattle.tool.proofs.Tested.{layered-sound, when-sound, when-not, unused-after, whole-of}
 use Rattle.tool.proofs.whole.whole_step.Statement.{statement}
 use Rattle.tool.proofs.whole.whole_step.Tie as tie
 
-abbrev input : tie.Start → Timed
+abbrev input : tie.Start → Brought
 input s =
-    timed (inputOf (s .args .number) (s .args .port) (s .args .value) (s .args .name .now) (s .args .codes .now)) (s .args .clock) (s .args .time)
+    brought
+    (timed (inputOf (s .args .number) (s .args .port) (s .args .value) (s .args .name .now) (s .args .codes .now)) (s .args .clock) (s .args .time))
+    (s .args .times .now)
 
-predicted-step-requires : tie.Need-predicted-step-requires
-predicted-step-requires c κs =
+brought-step-requires : tie.Need-brought-step-requires
+brought-step-requires c κs =
     let u = c .before .before in
     let t = u .before in
-    layered-sound (t .before .before .before .before .args .m .now) (sym (t .whole-sound .ensures) ∙ u .if1 .taken)
+    layered-sound (t .before .before .before .before .before .args .m .now) (sym (t .whole-sound .ensures) ∙ u .if1 .taken)
 
 returns : tie.Need-returns
 returns c =
     let u = c .before .before .before in
     let t = u .before in
-    let s = t .before .before .before .before in
+    let s = t .before .before .before .before .before in
     let m = s .args .m .now in
     let o = when-sound (wholeIn m) (input s) (sym (t .whole-sound .ensures) ∙ u .if1 .taken) in
-    let e = c .predicted-step .ensures .0 in
-    let u = unused-after (ownIn m) (ownIn (c .predicted-step .last .0)) (c .predicted-step .ensures .1) (omega arith) in
-    let w = whole-of (c .predicted-step .last .0) _ _ (ap (λ (g : Given). g .tool) e) u in (
+    let e = c .brought-step .ensures .0 in
+    let u = unused-after (ownIn m) (ownIn (c .brought-step .last .0)) (c .brought-step .ensures .1) (omega arith) in
+    let w = whole-of (c .brought-step .last .0) _ _ (ap (λ (g : Given). g .tool) e) u in (
       w ∙ ap (λ x. x .tool) o,
       (ap (λ (g : Given). g .reports) e ∙ ap (λ x. x .reports) o, ap (λ (g : Given). g .answer) e ∙ ap (λ x. x .answer) o),
     )
@@ -37,9 +40,9 @@ returns-2 : tie.Need-returns-2
 returns-2 c =
     let u = c .before .before in
     let t = u .before in
-    let s = t .before .before .before .before in
+    let s = t .before .before .before .before .before in
     let o = when-not (wholeIn (s .args .m .now)) (input s) (sym (t .whole-sound .ensures) ∙ u .if1 .left) in
     (ap (λ x. x .tool) o, (c .no-reports .ensures ∙ ap (λ x. x .reports) o, ap (λ x. x .answer) o))
 
 pub whole-step-spec : {M : Type 1} → statement M
-whole-step-spec = tie.close (tie.spec (λ c κs. tt) predicted-step-requires (λ c κs. tt) returns returns-2)
+whole-step-spec = tie.close (tie.spec (λ c κs. tt) brought-step-requires (λ c κs. tt) returns returns-2)
