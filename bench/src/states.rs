@@ -221,6 +221,7 @@ fn input(tool: &Tool, row: u32, family: usize, accepted: bool, rng: &mut Rng) ->
             codes: codes(tool, row, k as usize, rng),
             clock: if is_timed(row) { rng.pick(&[49, 50, 50, 51, 110, 230]) } else { 0 },
             time: if is_timed(row) { rng.pick(&[0, 50, 110, 111, 230]) } else { 0 },
+            ..Input::default()
         };
         if (answer(tool, &input) == 0) == accepted {
             break;

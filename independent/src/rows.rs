@@ -22,8 +22,9 @@ pub(crate) enum Refusal {
     // The two that P5 adds; no row of document 01 gives them.
     QueueFull = 9,
     AlreadyQueued = 10,
-    // And the one of P7.
+    // The one of P7, and the one of P8.
     ClockEarlier = 11,
+    NoTp = 12,
 }
 
 use Refusal::*;

@@ -23,6 +23,15 @@ pub struct Input {
     /// P7's clock, and Tp or Te.
     pub clock: u32,
     pub time: u32,
+    /// The times of P8's wafers, process, handling and so on, as the bits of f64: they are compared by their bits.
+    pub wafers: Vec<u64>,
+}
+
+impl Input {
+    /// The times of the wafers.
+    pub fn times(&self) -> Vec<f64> {
+        self.wafers.iter().map(|&bits| f64::from_bits(bits)).collect()
+    }
 }
 
 /// A splitmix64 generator. A mood lasts for some inputs and tells whether a run fills the tool, or the

@@ -12,6 +12,7 @@
 //! - P13, answers to the bridge: [`reply`], with the words of [`texts`].
 //! - P5, a queue for CarrierOut: [`queue`], which has rows of its own and takes row 7 over.
 //! - P7, prediction of ready to unload: [`predict`], which has rows that bring the clock.
+//! - P8, where Tp comes from: [`wafers`], which gives Tp as a total of times.
 
 mod maps;
 pub mod names;
@@ -20,6 +21,7 @@ pub mod queue;
 pub mod reply;
 pub mod secs;
 pub mod texts;
+pub mod wafers;
 mod waiting;
 
 use crate::rows::{row, Outcome, Refusal, Result};
@@ -32,7 +34,7 @@ use queue::Queue;
 pub use waiting::waiting;
 
 /// How many inputs there are, numbered from 1.
-pub const INPUTS: u32 = 34;
+pub const INPUTS: u32 = 35;
 
 /// The bytes of a tool that no request has taken yet.
 pub const UNUSED: usize = 294;
@@ -94,7 +96,7 @@ pub fn sound(t: &Tool) -> bool {
 
 /// Gives the tool an input: 0 if accepted, with the reports in `out`; otherwise the number of the
 /// refusal, with the tool as it was and no report. A state that isn't sound is refused with 1. An input
-/// that brings the clock brings 0, and 0 for its time.
+/// that brings the clock brings 0, and 0 for its time or no wafers.
 pub fn step(
     t: &mut Tool,
     number: u32,
@@ -122,7 +124,7 @@ pub fn step_known_sound(
     codes: &[u8],
     out: &mut Reports,
 ) -> u32 {
-    answered(t, &Given { number, port, value, name, codes, clock: 0, time: 0 }, out)
+    answered(t, &Given { number, port, value, name, codes, clock: 0, time: 0, wafers: &[] }, out)
 }
 
 /// As [`step`] for an input that brings the clock: with a name and Tp or Te as its time, where it has
@@ -145,7 +147,29 @@ pub fn time_step_known_sound(
     out: &mut Reports,
 ) -> u32 {
     let number = if predict::is_timed(number) { number } else { 0 };
-    answered(t, &Given { number, port: 0, value: 0, name, codes: &[], clock, time }, out)
+    answered(t, &Given { number, port: 0, value: 0, name, codes: &[], clock, time, wafers: &[] }, out)
+}
+
+/// As [`step`] for the input that brings the clock and the times of wafers: process, handling, process, handling
+/// and so on. An odd number of times, or more than 25 wafers, is refused with 1.
+pub fn wafers_step(t: &mut Tool, clock: u32, name: &[u8], wafers: &[f64], out: &mut Reports) -> u32 {
+    if !sound(t) {
+        *out = Reports::NONE;
+        return Refusal::Range as u32;
+    }
+    wafers_step_known_sound(t, clock, name, wafers, out)
+}
+
+/// As [`wafers_step`], for a state that is known to be sound.
+pub fn wafers_step_known_sound(
+    t: &mut Tool,
+    clock: u32,
+    name: &[u8],
+    wafers: &[f64],
+    out: &mut Reports,
+) -> u32 {
+    let number = wafers::WAFERS;
+    answered(t, &Given { number, port: 0, value: 0, name, codes: &[], clock, time: 0, wafers }, out)
 }
 
 /// The answer, and the reports where the input is accepted.
@@ -164,6 +188,7 @@ struct Given<'a> {
     codes: &'a [u8],
     clock: u32,
     time: u32,
+    wafers: &'a [f64],
 }
 
 /// The input with what the requests make of it. No report comes before the last refusal.
@@ -171,7 +196,8 @@ struct Given<'a> {
 fn amended(t: &mut Tool, given: &Given, out: &mut Reports) -> Result<()> {
     let map = maps::given(given)?;
     let name = names::given(given)?;
-    if predict::is_timed(given.number) {
+    wafers::given(given)?;
+    if predict::brings_clock(given.number) {
         return predict::row(t, given, name, out);
     }
     let touched = match queue::row(t, given, name) {

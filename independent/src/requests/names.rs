@@ -54,7 +54,7 @@ pub fn name_of(text: &[u8]) -> Option<&[u8]> {
 /// The rows that take a name.
 #[inline]
 pub const fn takes_name(number: u32) -> bool {
-    matches!(number, 1..=8 | 16 | 19..=23 | 29 | 32..=34)
+    matches!(number, 1..=8 | 16 | 19..=23 | 29 | 32..=35)
 }
 
 const CANCEL_BIND: u32 = 2;

@@ -4,6 +4,7 @@
 //! that bring the clock judge all of them, and some rows of document 01 change that of their carrier.
 //! Several turns may come of one input, so that they are told as they happen.
 
+use super::wafers::{self, WAFERS};
 use super::{Given, Tool};
 use crate::report::Touched;
 use crate::rows::{read_name, unless, Refusal, Result};
@@ -214,10 +215,16 @@ pub(super) fn follow(t: &mut Tool, number: u32, touched: &Touched, out: &mut Rep
 
 // ---- The inputs that bring the clock ------------------------------------------------------------
 
-/// Whether this is an input that brings the clock.
+/// Whether this is an input that brings the clock, and a time at most.
 #[inline]
 pub const fn is_timed(number: u32) -> bool {
     matches!(number, CLOCK..=NO_PREDICTION)
+}
+
+/// Whether this is an input that brings the clock, with wafers too.
+#[inline]
+pub const fn brings_clock(number: u32) -> bool {
+    is_timed(number) || number == WAFERS
 }
 
 /// The inputs that bring the clock: what they say of a carrier first, then all are judged.
@@ -225,11 +232,15 @@ pub const fn is_timed(number: u32) -> bool {
 pub(super) fn row(t: &mut Tool, given: &Given, name: &[u8], out: &mut Reports) -> Result<()> {
     let named = if given.number == CLOCK { None } else { Some(admitted(t, given.number, name)?) };
     unless(given.clock >= t.predictions.clock(), Refusal::ClockEarlier)?;
+    let time = match given.number {
+        WAFERS => wafers::tp(given.clock, given.wafers).ok_or(Refusal::NoTp)?,
+        _ => given.time,
+    };
 
     t.predictions.clock = given.clock.to_le_bytes();
     match (given.number, named) {
-        (PREDICTED_TIME, Some(i)) => t.predictions.of[i].set_tp(given.time),
-        (ESTIMATE, Some(i)) => t.predictions.of[i].set_te(given.time),
+        (PREDICTED_TIME | WAFERS, Some(i)) => t.predictions.of[i].set_tp(time),
+        (ESTIMATE, Some(i)) => t.predictions.of[i].set_te(time),
         (NO_PREDICTION, Some(i)) => {
             turn(t, i, ABORTED, out);
             complete_if_ready(t, i, out);
@@ -246,7 +257,7 @@ fn admitted(t: &Tool, number: u32, name: &[u8]) -> Result<usize> {
     let i = t.base.find(read_name(name)?).ok_or(Refusal::NoRecord)?;
     let p = &t.predictions.of[i];
     let may = match number {
-        PREDICTED_TIME => p.state == WAITING_FOR_PREDICTION && p.has_tp == 0,
+        PREDICTED_TIME | WAFERS => p.state == WAITING_FOR_PREDICTION && p.has_tp == 0,
         ESTIMATE => p.has_tp != 0,
         _ => p.state == WAITING_FOR_PREDICTION,
     };

@@ -6,7 +6,7 @@ use crate::gen::parts::padded;
 use crate::gen::Input;
 use crate::requests::names::name_of;
 use crate::requests::predict::Prediction;
-use crate::requests::Tool;
+use crate::requests::{wafers, Tool};
 use crate::state::{Report, Reports, MAX_CARRIERS};
 
 /// What may befall the predictions of a sound tool without a buffer.
@@ -82,9 +82,9 @@ pub fn foretells(before: &Tool, i: &Input, answer: u32, out: &Reports) -> Vec<us
     let at = before.base.carriers().iter().position(|c| Some(c.name) == name);
     let p = at.map(|at| &before.predictions.of[at]);
     match (i.number, answer) {
-        (31..=34, 0) => clocks(before, i, out, &mut all),
-        (31..=34, 11) => all.push("a clock that runs back"),
-        (32..=34, 5) if i.clock < before.predictions.clock() => all.push("a clock that runs back, and 5"),
+        (31..=35, 0) => clocks(before, i, out, &mut all),
+        (31..=35, 11) => all.push("a clock that runs back"),
+        (32..=35, 5) if i.clock < before.predictions.clock() => all.push("a clock that runs back, and 5"),
         _ => {}
     }
     all.extend(said(before, i, answer, p, out));
@@ -110,10 +110,11 @@ fn said(
     let p = p?;
     let waits = p.state == 3;
     Some(match (i.number, answer) {
-        (32, 0) => return tp(before, i, out),
-        (32, 5) if waits => "a second Tp",
-        (32, 5) if p.state == 2 => "Tp to one that waits for its carrier",
-        (32, 5) => "Tp to one that is past waiting",
+        (32, 0) => return tp(before, i, i.time as u64, out),
+        (35, 0) => return tp(before, i, wafers::tp(i.clock, &i.times())? as u64, out),
+        (32 | 35, 5) if waits => "a second Tp",
+        (32 | 35, 5) if p.state == 2 => "Tp to one that waits for its carrier",
+        (32 | 35, 5) => "Tp to one that is past waiting",
         (33, 0) => return te(before, i, p),
         (33, 5) => "Te without Tp",
         (34, 0) if turns(out).nth(1).is_some_and(|r| r.old == 5) => "no prediction at a ready port",
@@ -124,9 +125,9 @@ fn said(
     })
 }
 
-fn tp(before: &Tool, i: &Input, out: &Reports) -> Option<&'static str> {
+fn tp(before: &Tool, i: &Input, tp: u64, out: &Reports) -> Option<&'static str> {
     let (setting, timeout) = (before.predictions.setting() as u64, before.predictions.timeout() as u64);
-    let (now, tp) = (i.clock as u64, i.time as u64);
+    let now = i.clock as u64;
     let name = name_of(&i.name).map(padded);
     let own = turns(out).find(|r| Some(r.name) == name).map(|r| r.new);
     Some(match own {

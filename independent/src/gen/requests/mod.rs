@@ -8,11 +8,14 @@ mod predict;
 mod queue;
 pub mod secs;
 mod tables;
+mod totals;
+mod wafers;
 
 use std::string::String;
 
 use super::{Input, Rng};
 use crate::requests::predict::is_timed;
+use crate::requests::wafers::WAFERS;
 use crate::requests::{self, Tool, UNUSED};
 use crate::Reports;
 
@@ -21,11 +24,16 @@ pub use foretells::{foretells, FORETELLS};
 pub use names::random_text;
 pub use predict::random_times;
 pub use tables::{random_table, LONGEST_TABLE};
+pub use totals::{totals, TOTALS};
+pub use wafers::{random_time, totalling, whole, LIMITS};
 
 /// Gives the tool an input, whatever its parts.
 pub fn step(t: &mut Tool, i: &Input, out: &mut Reports) -> u32 {
     if is_timed(i.number) {
         return requests::time_step(t, i.number, i.clock, &i.name, i.time, out);
+    }
+    if i.number == WAFERS {
+        return requests::wafers_step(t, i.clock, &i.name, &i.times(), out);
     }
     requests::step(t, i.number, i.port, i.value, &i.name, &i.codes, out)
 }

@@ -5,10 +5,12 @@ use std::fmt::Write;
 use std::string::{String, ToString};
 use std::vec::Vec;
 
+use super::wafers::{self, MOST_SECONDS, PAST};
 use crate::gen::parts::{pool_name, unpadded, POOL};
 use crate::gen::{Input, Rng};
-use crate::requests::predict::{is_timed, state, Prediction, CLOCK, ESTIMATE, LONGEST};
+use crate::requests::predict::{brings_clock, state, Prediction, CLOCK, ESTIMATE, LONGEST};
 use crate::requests::predict::{NO_PREDICTION, PREDICTED_TIME};
+use crate::requests::wafers::WAFERS;
 use crate::requests::Tool;
 use crate::state::*;
 
@@ -107,7 +109,26 @@ fn te(t: &Tool, p: &Prediction, rng: &mut Rng) -> u32 {
     }
 }
 
+/// A clock, and a Tp for wafers to come to: mostly as another input would bring them. Now and then it is at the end of all
+/// clocks or past it, which is mostly refused and so leaves the clock where it is.
+fn wafers_of(t: &Tool, rng: &mut Rng) -> (u32, u64) {
+    let now = t.predictions.clock();
+    let ends = now > u32::MAX - MOST_SECONDS;
+    if !rng.chance(if ends { 40 } else { 8 }) {
+        let clock = clock(t, rng);
+        return (clock, tp(t, clock, rng) as u64);
+    }
+    let clock = now.max(u32::MAX - rng.pick(&[0, 1, 2, 60, 100_000, 1 << 20, 1 << 25]));
+    let accepted = rng.chance(if ends { 40 } else { 4 });
+    let past = rng.pick(&[0, 0, 0, 1, 60, 1 << 20]);
+    (clock, if accepted { PAST - 1 } else { PAST + past })
+}
+
 fn timed(t: &Tool, number: u32, name: Vec<u8>, p: &Prediction, rng: &mut Rng) -> Input {
+    if number == WAFERS {
+        let (clock, tp) = wafers_of(t, rng);
+        return Input { number, name, clock, wafers: wafers::draw(clock, tp, rng), ..Input::default() };
+    }
     let clock = clock(t, rng);
     let time = match number {
         PREDICTED_TIME => tp(t, clock, rng),
@@ -141,7 +162,8 @@ pub(super) fn draw_input(t: &Tool, rng: &mut Rng) -> Option<Input> {
     let begun = |c: &Carrier, p: &Prediction| c.accessing != 2 && matches!(p.state, 3..=5);
     match rng.below(100) {
         0..=8 => Some(timed(t, CLOCK, Vec::new(), &Prediction::NONE, rng)),
-        9..=20 => pick(t, rng, waits).map(|(name, p)| timed(t, PREDICTED_TIME, name, &p, rng)),
+        9..=14 => pick(t, rng, waits).map(|(name, p)| timed(t, PREDICTED_TIME, name, &p, rng)),
+        15..=20 => pick(t, rng, waits).map(|(name, p)| timed(t, WAFERS, name, &p, rng)),
         21..=26 => pick(t, rng, told).map(|(name, p)| timed(t, ESTIMATE, name, &p, rng)),
         27 | 28 => pick(t, rng, |_, p| p.state == 3).map(|(name, p)| timed(t, NO_PREDICTION, name, &p, rng)),
         29 | 30 => pick(t, rng, begun).map(|(name, _)| of(6, name)),
@@ -165,7 +187,7 @@ fn cancel_unknown(t: &Tool, rng: &mut Rng) -> Option<Input> {
 
 /// An input that brings the clock, for any carrier.
 fn any_timed(t: &Tool, rng: &mut Rng) -> Input {
-    let number = CLOCK + rng.below(4);
+    let number = CLOCK + rng.below(5);
     let (name, p) = pick(t, rng, |_, _| true)
         .filter(|_| number != CLOCK && rng.chance(85))
         .unwrap_or_else(|| (pool_name(rng.below(POOL)), Prediction::NONE));
@@ -176,13 +198,13 @@ fn any_timed(t: &Tool, rng: &mut Rng) -> Input {
 /// parts that a row doesn't name are not looked at.
 pub(super) fn complete(t: &Tool, input: &mut Input, rng: &mut Rng) {
     if rng.chance(2) {
-        input.number = CLOCK + rng.below(4);
+        input.number = CLOCK + rng.below(5);
         (input.clock, input.time) = (clock(t, rng), rng.draw() as u32);
     }
-    if is_timed(input.number) && rng.chance(5) {
+    if brings_clock(input.number) && rng.chance(5) {
         (input.port, input.value) = (rng.below(6), rng.draw() as u32);
         input.codes = std::vec![3; rng.pick(&[0, 1, 25])];
-    } else if !is_timed(input.number) && rng.chance(3) {
+    } else if !brings_clock(input.number) && rng.chance(3) {
         (input.clock, input.time) = (clock(t, rng), rng.draw() as u32);
     }
 }
