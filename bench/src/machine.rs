@@ -1,8 +1,9 @@
 //! A step of either program, as one kind of function.
 
-use hawsermole::raw;
+use hawsermole::raw::{self, REPORTS_BYTES, TOOL_BYTES};
 use independent::requests::predict::is_timed;
 use independent::requests::secs::{secs_step, SecsAnswer};
+use independent::requests::wafers::WAFERS;
 use independent::requests::{self, Tool};
 use independent::{Plain, Reports};
 
@@ -18,6 +19,8 @@ pub struct Given<'a> {
     pub codes: &'a [u8],
     pub clock: u32,
     pub time: u32,
+    /// The times of wafers, process, handling and so on.
+    pub wafers: &'a [f64],
 }
 
 pub type Step = fn(&mut Tool, &Given, &mut Reports) -> u32;
@@ -27,6 +30,9 @@ pub fn proved(tool: &mut Tool, i: &Given, reports: &mut Reports) -> u32 {
     if is_timed(i.number) {
         return caller_of_hm_time_step(tool, i.number, i.clock, i.name, i.time, reports);
     }
+    if i.number == WAFERS {
+        return caller_of_hm_wafers_step(tool, i.clock, i.name, i.wafers, reports);
+    }
     caller_of_hm_step(tool, i.number, i.port, i.value, i.name, i.codes, reports)
 }
 
@@ -35,6 +41,9 @@ pub fn independent(tool: &mut Tool, i: &Given, reports: &mut Reports) -> u32 {
     if is_timed(i.number) {
         return requests::time_step(tool, i.number, i.clock, i.name, i.time, reports);
     }
+    if i.number == WAFERS {
+        return requests::wafers_step(tool, i.clock, i.name, i.wafers, reports);
+    }
     requests::step(tool, i.number, i.port, i.value, i.name, i.codes, reports)
 }
 
@@ -42,6 +51,9 @@ pub fn independent(tool: &mut Tool, i: &Given, reports: &mut Reports) -> u32 {
 pub fn independent_known_sound(tool: &mut Tool, i: &Given, reports: &mut Reports) -> u32 {
     if is_timed(i.number) {
         return requests::time_step_known_sound(tool, i.number, i.clock, i.name, i.time, reports);
+    }
+    if i.number == WAFERS {
+        return requests::wafers_step_known_sound(tool, i.clock, i.name, i.wafers, reports);
     }
     requests::step_known_sound(tool, i.number, i.port, i.value, i.name, i.codes, reports)
 }
@@ -82,6 +94,37 @@ pub fn caller_of_hm_time_step(
     std::hint::black_box(answer)
 }
 
+// `include/hawsermole.h` says what it gives.
+unsafe extern "C" {
+    fn hm_wafers_step(
+        tool: &mut [u8; TOOL_BYTES],
+        reports: &mut [u8; REPORTS_BYTES],
+        clock: u32,
+        name: *const u8,
+        name_length: u64,
+        times: *const f64,
+        times_count: u64,
+    ) -> u32;
+}
+
+/// An input that brings the clock and wafers, known in the same way.
+#[no_mangle]
+#[inline(never)]
+pub fn caller_of_hm_wafers_step(
+    tool: &mut Tool,
+    clock: u32,
+    name: &[u8],
+    times: &[f64],
+    reports: &mut Reports,
+) -> u32 {
+    let (tool, reports) = (tool.bytes_mut().try_into().unwrap(), reports.bytes_mut().try_into().unwrap());
+    let (length, count) = (name.len() as u64, times.len() as u64);
+    // SAFETY: `main` has seen that the sizes agree. Name and times are lent with their lengths.
+    let answer =
+        unsafe { hm_wafers_step(tool, reports, clock, name.as_ptr(), length, times.as_ptr(), count) };
+    std::hint::black_box(answer)
+}
+
 /// The name check, known in the same way.
 #[no_mangle]
 #[inline(never)]
@@ -109,5 +152,6 @@ pub fn independent_secs(tool: &mut Tool, message: &[u8], reports: &mut Reports) 
 /// Nothing but reading the input, so that its price is known.
 pub fn reading_alone(_: &mut Tool, i: &Given, _: &mut Reports) -> u32 {
     let first = |bytes: &[u8]| bytes.first().map_or(0, |&byte| byte as u32);
-    i.number ^ i.port ^ i.value ^ i.clock ^ i.time ^ first(i.name) ^ first(i.codes)
+    let wafer = i.wafers.first().map_or(0, |time| time.to_bits() as u32);
+    i.number ^ i.port ^ i.value ^ i.clock ^ i.time ^ wafer ^ first(i.name) ^ first(i.codes)
 }

@@ -19,12 +19,14 @@ struct Recorded {
     codes: std::ops::Range<usize>,
     clock: u32,
     time: u32,
+    wafers: std::ops::Range<usize>,
 }
 
 pub struct Mix {
     pub start: Tool,
     inputs: Vec<Recorded>,
     bytes: Vec<u8>,
+    times: Vec<f64>,
     accepted: u64,
     live: u64,
     /// Slot maps that were the expected ones.
@@ -36,7 +38,8 @@ pub struct Mix {
 impl Mix {
     fn begin(start: Tool, count: usize) -> Mix {
         let inputs = Vec::with_capacity(count);
-        Mix { start, inputs, bytes: Vec::new(), accepted: 0, live: 0, at_once: 0, turns: 0 }
+        let (bytes, times) = (Vec::new(), Vec::new());
+        Mix { start, inputs, bytes, times, accepted: 0, live: 0, at_once: 0, turns: 0 }
     }
 
     pub fn inputs(&self) -> impl Iterator<Item = Given<'_>> {
@@ -48,6 +51,7 @@ impl Mix {
             codes: &self.bytes[i.codes.clone()],
             clock: i.clock,
             time: i.time,
+            wafers: &self.times[i.wafers.clone()],
         })
     }
 
@@ -71,8 +75,11 @@ impl Mix {
         self.at_once += judged as u64;
         self.turns += reports.as_slice().iter().filter(|r| r.model == 8).count() as u64;
         let (name, codes) = (self.keep(&i.name), self.keep(&i.codes));
+        let from = self.times.len();
+        self.times.extend(i.times());
+        let wafers = from..self.times.len();
         let Input { number, port, value, clock, time, .. } = *i;
-        self.inputs.push(Recorded { number, port, value, name, codes, clock, time });
+        self.inputs.push(Recorded { number, port, value, name, codes, clock, time, wafers });
     }
 
     fn keep(&mut self, bytes: &[u8]) -> std::ops::Range<usize> {
@@ -104,7 +111,7 @@ pub fn record(count: usize, carriers: usize) -> Mix {
     mix
 }
 
-/// `count` inputs at P = 4, B = 0, setting 60 and timeout 120, with clocks, Tps and Tes. A clock that would leap to the
+/// `count` inputs at P = 4, B = 0, setting 60 and timeout 120, with clocks, Tps, Tes and wafers. A clock that would leap to the
 /// end of all clocks is drawn anew, so that predictions go on.
 pub fn record_foretelling(count: usize) -> Mix {
     const LEAP: u32 = 200_000;
@@ -149,7 +156,9 @@ mod tests {
     fn the_mix_without_a_buffer_foretells() {
         let mix = record_foretelling(20_000);
         let timed = |number| mix.inputs().filter(|i| i.number == number).count();
-        assert!((31..=34).all(|number| timed(number) > 200), "{:?}", [31, 32, 33, 34].map(timed));
+        assert!((31..=35).all(|number| timed(number) > 200), "{:?}", [31, 32, 33, 34, 35].map(timed));
+        let full = mix.inputs().filter(|i| i.wafers.len() == 50).count();
+        assert!(full > 20, "{full}");
         assert!(
             mix.turns > 2_000 && mix.percent_accepted() > 60.0,
             "{} {}",

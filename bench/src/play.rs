@@ -5,11 +5,15 @@
 
 use hawsermole::{Row, ROWS};
 use independent::gen::{Input, Rng};
-use independent::requests::predict::{is_timed, CLOCK};
+use independent::requests::predict::{brings_clock, is_timed, CLOCK};
+use independent::requests::wafers::WAFERS;
 use independent::requests::Tool;
 use independent::Reports;
 
-use crate::machine::{caller_of_hm_name, caller_of_hm_step, caller_of_hm_time_step, proved};
+use crate::machine::proved;
+use crate::machine::{
+    caller_of_hm_name, caller_of_hm_step, caller_of_hm_time_step, caller_of_hm_wafers_step,
+};
 use crate::mix::record;
 use crate::states::{damaged, prepared, FAMILIES};
 
@@ -28,7 +32,7 @@ pub fn mix(count: usize, carriers: usize) {
         let live = tool.base.count;
         let answer = proved(&mut tool, &i, &mut reports);
         // An input that brings the clock is no call of `hm_step`.
-        if !is_timed(i.number) {
+        if !brings_clock(i.number) {
             println!("{live} {} {answer} mixed", i.number);
         }
     }
@@ -39,6 +43,10 @@ fn call(tool: &Tool, i: &Input, names: &str) {
     let mut reports = Reports::NONE;
     if is_timed(i.number) {
         caller_of_hm_time_step(&mut next, i.number, i.clock, &i.name, i.time, &mut reports);
+        return;
+    }
+    if i.number == WAFERS {
+        caller_of_hm_wafers_step(&mut next, i.clock, &i.name, &i.times(), &mut reports);
         return;
     }
     let answer = caller_of_hm_step(&mut next, i.number, i.port, i.value, &i.name, &i.codes, &mut reports);

@@ -1,10 +1,11 @@
 //! Prepared states: sound tools of P = 4 and B = 16, or without a buffer for inputs that name a time, with a given number of records, with and without expected maps and
 //! requests to come out, and an input for each.
 
-use independent::gen::requests::step;
+use independent::gen::requests::{step, totalling};
 use independent::gen::{padded, pool_name, shuffle, Input, Rng, POOL};
-use independent::requests::predict::is_timed;
+use independent::requests::predict::brings_clock;
 use independent::requests::queue::Request;
+use independent::requests::wafers::WAFERS;
 use independent::requests::{setup, sound, Tool};
 use independent::{accessing, movement, place, status, tag, transfer};
 use independent::{Carrier, Plain, Port, Reports, MAP_LEN, MAX_CARRIERS, NAME_LEN};
@@ -219,9 +220,9 @@ fn input(tool: &Tool, row: u32, family: usize, accepted: bool, rng: &mut Rng) ->
             value: if row == 18 { 1 + rng.below(16) } else { rng.below(2) },
             name: name(family, k),
             codes: codes(tool, row, k as usize, rng),
-            clock: if is_timed(row) { rng.pick(&[49, 50, 50, 51, 110, 230]) } else { 0 },
-            time: if is_timed(row) { rng.pick(&[0, 50, 110, 111, 230]) } else { 0 },
-            ..Input::default()
+            clock: if brings_clock(row) { rng.pick(&[49, 50, 50, 51, 110, 230]) } else { 0 },
+            time: if brings_clock(row) { rng.pick(&[0, 50, 110, 111, 230]) } else { 0 },
+            wafers: wafers(row, rng),
         };
         if (answer(tool, &input) == 0) == accepted {
             break;
@@ -241,6 +242,19 @@ fn codes(tool: &Tool, row: u32, k: usize, rng: &mut Rng) -> Vec<u8> {
         _ if rng.chance(50) => vec![rng.below(6) as u8; MAP_LEN],
         _ => Vec::new(),
     }
+}
+
+/// The times of some wafers; seldom with one that isn't good.
+fn wafers(row: u32, rng: &mut Rng) -> Vec<u64> {
+    if row != WAFERS {
+        return Vec::new();
+    }
+    let total = 1024 * rng.pick(&[0, 1, 60, 61, 5000]) + rng.below(3) as u64;
+    let mut times = totalling(total, rng).unwrap_or_default();
+    if rng.chance(10) && !times.is_empty() {
+        times[0] = f64::NAN.to_bits();
+    }
+    times
 }
 
 fn answer(tool: &Tool, i: &Input) -> u32 {
