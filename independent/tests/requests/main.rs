@@ -9,10 +9,12 @@ mod names;
 mod plain;
 mod plain_predict;
 mod plain_queue;
+mod plain_wafers;
 mod predict;
 mod queue;
 mod runs;
 mod soundness;
+mod wafers;
 mod waiting;
 
 use independent::gen::padded;

@@ -6,7 +6,7 @@ use independent::requests::Tool;
 use independent::{Plain, Reports};
 
 use crate::common::{plain_reports, plainly_sound as plainly_sound_before};
-use crate::{plain_predict, plain_queue};
+use crate::{plain_predict, plain_queue, plain_wafers};
 
 /// Document 01's words; each record has 0 or 25 codes of 1 and 3; the words on the queue and on
 /// predictions; unused bytes are zero.
@@ -33,7 +33,7 @@ fn map_of(t: &Tool, name: [u8; 16]) -> Option<Vec<u8>> {
 }
 
 /// The rows that have a name among their parts.
-pub const NAMED: [u32; 18] = [1, 2, 3, 4, 5, 6, 7, 8, 16, 19, 20, 21, 22, 23, 29, 32, 33, 34];
+pub const NAMED: [u32; 19] = [1, 2, 3, 4, 5, 6, 7, 8, 16, 19, 20, 21, 22, 23, 29, 32, 33, 34, 35];
 
 /// The name in a text: blanks at the end go one by one.
 pub fn plain_name(text: &[u8]) -> Option<Vec<u8>> {
@@ -60,7 +60,7 @@ pub fn plain_step(before: &Tool, i: &Input) -> (u32, Tool, Reports) {
     let Some(i) = shortened(i) else { return (1, *before, Reports::NONE) };
     let carries_map = i.number == 1 || i.number == 3;
     let good = i.codes.is_empty() || i.codes.len() == 25 && i.codes.iter().all(|code| [1, 3].contains(code));
-    if carries_map && !good {
+    if carries_map && !good || i.number == 35 && !plain_wafers::counted(i.wafers.len()) {
         return (1, *before, Reports::NONE);
     }
     if let Some(given) = plain_predict::step(before, &i).or_else(|| plain_queue::step(before, &i)) {

@@ -6,6 +6,8 @@ use independent::requests::predict::Prediction;
 use independent::requests::Tool;
 use independent::{Plain, Report, Reports};
 
+use crate::plain_wafers::plain_tp;
+
 /// The words on soundness, clause by clause, where document 01's tool is sound.
 pub fn plainly_sound(t: &Tool) -> bool {
     let p = &t.predictions;
@@ -139,29 +141,37 @@ impl Plainly {
     }
 }
 
-/// What inputs 31 to 34 give from a sound state, for a name that is good; `None` for other rows.
+/// What inputs 31 to 35 give from a sound state, for a name and a number of wafers that are good; `None` for other
+/// rows.
 pub fn step(before: &Tool, i: &Input) -> Option<(u32, Tool, Reports)> {
-    if !(31..=34).contains(&i.number) {
+    if !(31..=35).contains(&i.number) {
         return None;
     }
+    let by_wafers = plain_tp(i.clock, &i.times());
     let mut p = Plainly::read(before, before);
     let at = p.all.iter().position(|f| f.name == padded(if i.number == 31 { &[] } else { &i.name }));
     let entry = at.map(|at| p.all[at].clone());
     let wrong = match (i.number, &entry) {
         (31, _) => false,
         _ if before.base.places > 0 => true,
-        (32, Some(f)) => f.state != 3 || f.tp.is_some(),
+        (32 | 35, Some(f)) => f.state != 3 || f.tp.is_some(),
         (33, Some(f)) => f.tp.is_none(),
         (_, Some(f)) => f.state != 3,
         (_, None) => false,
     };
-    let refusals = [(2, i.number != 31 && at.is_none()), (5, wrong), (11, (i.clock as u64) < p.now)];
+    let refusals = [
+        (2, i.number != 31 && at.is_none()),
+        (5, wrong),
+        (11, (i.clock as u64) < p.now),
+        (12, i.number == 35 && by_wafers.is_none()),
+    ];
     if let Some((refusal, _)) = refusals.iter().find(|(_, applies)| *applies) {
         return Some((*refusal, *before, Reports::NONE));
     }
     p.now = i.clock as u64;
     match (i.number, at) {
         (32, Some(at)) => p.all[at].tp = Some(i.time as u64),
+        (35, Some(at)) => p.all[at].tp = by_wafers,
         (33, Some(at)) => p.all[at].te = Some(i.time as u64),
         (34, Some(at)) => {
             p.make(at, 27);

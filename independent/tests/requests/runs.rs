@@ -5,15 +5,16 @@ use std::collections::HashMap;
 use independent::gen::requests::step;
 use independent::gen::requests::{describe, random_run_input, random_sound_tool, random_times};
 use independent::gen::{Input, Rng};
+use independent::requests::wafers_step_known_sound;
 use independent::requests::{setup, sound, step_known_sound, time_step_known_sound, Tool};
 use independent::{Report, Reports};
 
 use crate::common::ALLOWED;
 use crate::plain::{plain_name, plain_step, plainly_sound, same};
 
-/// The rows that P5 and P7 change or add, as [`ALLOWED`] has the others. Row 30 is never refused in a sound
+/// The rows that P5, P7 and P8 change or add, as [`ALLOWED`] has the others. Row 30 is never refused in a sound
 /// state, and row 31 has no part that could be out of range.
-const ADDED: [(u32, &[u32]); 10] = [
+const ADDED: [(u32, &[u32]); 11] = [
     (7, &[0, 1, 2, 5, 9, 10]),
     (13, &[0, 1, 4, 5]),
     (27, &[0, 1, 4, 5]),
@@ -24,6 +25,7 @@ const ADDED: [(u32, &[u32]); 10] = [
     (32, &[0, 1, 2, 5, 11]),
     (33, &[0, 1, 2, 5, 11]),
     (34, &[0, 1, 2, 5, 11]),
+    (35, &[0, 1, 2, 5, 11, 12]),
 ];
 
 /// How often each answer to each row was met, and how often a slot map was OK at once or was asked
@@ -51,6 +53,7 @@ fn checked(t: &mut Tool, i: &Input, met: &mut Met) -> u32 {
     let (mut again, mut out_again) = (before, Reports { count: 200, items: [dirty; 10] });
     let known = match i.number {
         31..=34 => time_step_known_sound(&mut again, i.number, i.clock, &i.name, i.time, &mut out_again),
+        35 => wafers_step_known_sound(&mut again, i.clock, &i.name, &i.times(), &mut out_again),
         _ => step_known_sound(&mut again, i.number, i.port, i.value, &i.name, &i.codes, &mut out_again),
     };
     assert!(known == answer && same(&again, t) && out_again == out);

@@ -20,7 +20,7 @@ const TE: u32 = 33;
 const NONE: u32 = 34;
 
 /// A tool without a buffer, with these times.
-fn fixed(p: u32, setting: u32, timeout: u32) -> Tool {
+pub fn fixed(p: u32, setting: u32, timeout: u32) -> Tool {
     let mut t = Tool::NONE;
     assert_eq!(setup(p, 0, setting, timeout, &mut t), 0);
     assert!(sound(&t));
@@ -39,13 +39,13 @@ fn at(t: &mut Tool, number: u32, clock: u32, name: &str, time: u32) -> (u32, Str
 }
 
 /// As `at`, and it must be accepted.
-fn tell(t: &mut Tool, number: u32, clock: u32, name: &str, time: u32) -> String {
+pub fn tell(t: &mut Tool, number: u32, clock: u32, name: &str, time: u32) -> String {
     let (answer, reports) = at(t, number, clock, name, time);
     assert_eq!(answer, 0, "row {number} at {clock}");
     reports
 }
 
-fn refusal(t: &Tool, number: u32, clock: u32, name: &str, time: u32) -> u32 {
+pub fn refusal(t: &Tool, number: u32, clock: u32, name: &str, time: u32) -> u32 {
     at(&mut t.clone(), number, clock, name, time).0
 }
 
@@ -54,14 +54,14 @@ fn foretold(t: &Tool, name: &str) -> Prediction {
 }
 
 /// The prediction as the command line writes it: STATE TP TE.
-fn shown(t: &Tool, name: &str) -> String {
+pub fn shown(t: &Tool, name: &str) -> String {
     let p = foretold(t, name);
     let time = |time: Option<u32>| time.map_or("-".to_string(), |time| time.to_string());
     format!("{} {} {}", p.state, time(p.tp()), time(p.te()))
 }
 
 /// A verified carrier comes to a port, and its access begins.
-fn access(t: &mut Tool, port: u32, name: &str) -> String {
+pub fn access(t: &mut Tool, port: u32, name: &str) -> String {
     accept(t, 1, port, 0, name);
     bring(t, port, name);
     accept(t, 19, 0, 0, name);
@@ -71,14 +71,14 @@ fn access(t: &mut Tool, port: u32, name: &str) -> String {
 }
 
 /// One carrier A in access, with these times.
-fn accessed(setting: u32, timeout: u32) -> Tool {
+pub fn accessed(setting: u32, timeout: u32) -> Tool {
     let mut t = fixed(1, setting, timeout);
     access(&mut t, 1, "A");
     t
 }
 
 /// The access ends and the carrier is closed; the reports of the latter.
-fn finish(t: &mut Tool, name: &str) -> String {
+pub fn finish(t: &mut Tool, name: &str) -> String {
     accept(t, 22, 0, 0, name);
     accept(t, 23, 0, 0, name)
 }
@@ -115,7 +115,7 @@ fn refused_set_up(p: u32, b: u32, setting: u32, timeout: u32) {
     assert_eq!(setup(p, b, setting, timeout, &mut t), 1, "{setting} {timeout}");
     assert_eq!(t.bytes(), [0; 3782]);
     assert!(!sound(&t));
-    for number in 30..=35 {
+    for number in 30..=36 {
         assert_eq!(time_step(&mut t, number, 5, b"A", 5, &mut Reports::NONE.clone()), 1);
         assert_eq!(t.bytes(), [0; 3782]);
     }
@@ -139,15 +139,15 @@ fn layout() {
     assert_eq!((shown(&t, "E"), shown(&t, "A")), ("2 - -".into(), "3 4294901244 168496141".into()));
 }
 
-/// Numbers from 35 on are none, by either way; those below 31 bring no clock. Through `step` an input
-/// that brings the clock brings 0.
+/// Numbers from 36 on are none, by either way; 35 and those below 31 are not `time_step`'s. Through `step` an
+/// input that brings the clock brings 0.
 #[test]
 fn numbers() {
     let t = accessed(60, 120);
     for number in (0..=30).chain(35..=300).chain([31 + 256, 34 + (1 << 16), 32 + (1 << 31), u32::MAX]) {
         assert_eq!(refusal(&t, number, 5, "A", 5), 1, "{number}");
     }
-    for number in (35..=40).chain([31 + 256, 33 + (1 << 31)]) {
+    for number in (36..=40).chain([31 + 256, 33 + (1 << 31)]) {
         assert_eq!(answer(&t, number, 1, "A", &[]), 1, "{number}");
     }
     let mut u = t;
@@ -164,7 +164,7 @@ fn numbers() {
 fn document_01_has_none_of_it() {
     let mut base = accessed(60, 120).base;
     let mut out = Reports::NONE;
-    for number in 31..=34 {
+    for number in 31..=35 {
         assert_eq!(independent::step(&mut base, number, 1, 0, b"A", &[], &mut out), 1);
     }
     assert_eq!(independent::step(&mut base, 3, 0, 0, b"N", &[], &mut out), 0);

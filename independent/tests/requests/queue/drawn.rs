@@ -46,7 +46,7 @@ fn everything_befalls_the_queue_along_runs() {
 fn everything_befalls_the_queue_of_a_state() {
     let mut met = Met::default();
     let mut rng = Rng::new(22);
-    for _ in 0..80_000 {
+    for _ in 0..160_000 {
         let mut t = random_sound_tool(&mut rng);
         let i = random_run_input(&t, &mut rng);
         note(&mut met, &mut t, &i);
