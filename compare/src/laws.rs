@@ -9,6 +9,7 @@ use crate::pairs::may_answer;
 use crate::predict;
 use crate::queue;
 use crate::script::tabled;
+use crate::wafers;
 
 /// Why an outcome on which the programs agree is against the documents.
 pub fn unlawful(before: &Tool, input: &Input, o: &Outcome) -> Option<String> {
@@ -26,11 +27,12 @@ pub fn unlawful(before: &Tool, input: &Input, o: &Outcome) -> Option<String> {
         .or_else(|| badly_carried(input, o))
         .or_else(|| badly_judged(before, input, o))
         .or_else(|| queue::unlawful(before, input, o))
+        .or_else(|| wafers::unlawful(before, input, o))
         .or_else(|| predict::unlawful(before, input, o))
 }
 
 /// The rows that take a name.
-const NAMED: [u32; 18] = [1, 2, 3, 4, 5, 6, 7, 8, 16, 19, 20, 21, 22, 23, 29, 32, 33, 34];
+const NAMED: [u32; 19] = [1, 2, 3, 4, 5, 6, 7, 8, 16, 19, 20, 21, 22, 23, 29, 32, 33, 34, 35];
 
 /// P4: the bytes before the blanks at the end of a text.
 pub fn shortened(mut text: &[u8]) -> &[u8] {

@@ -3,8 +3,11 @@
 use hawsermole::raw::{self, REPORTS_BYTES, TOOL_BYTES};
 use independent::gen::{requests as gen, Input};
 use independent::requests::predict::is_timed;
+use independent::requests::wafers::WAFERS;
 use independent::requests::{self, secs, Tool};
 use independent::{Plain, Reports};
+
+use crate::library;
 
 /// The numbers of a set-up.
 #[derive(Clone, Copy, Debug, Default, PartialEq, Eq)]
@@ -68,6 +71,10 @@ impl Machine for Proved {
         if is_timed(i.number) {
             // SAFETY: the sizes agree.
             return unsafe { raw::time_step(lent(tool), lent(reports), i.number, i.clock, &i.name, i.time) };
+        }
+        if i.number == WAFERS {
+            // SAFETY: the sizes agree.
+            return unsafe { library::wafers_step(tool, i, reports) };
         }
         // SAFETY: the sizes agree.
         unsafe { raw::step(lent(tool), lent(reports), i.number, i.port, i.value, &i.name, &i.codes) }

@@ -7,6 +7,7 @@
 
 mod answer;
 mod laws;
+mod library;
 mod machine;
 mod pairs;
 mod parts;
@@ -19,6 +20,7 @@ mod table;
 mod tell;
 #[cfg(test)]
 mod tests;
+mod wafers;
 
 use std::process::ExitCode;
 
@@ -30,7 +32,7 @@ use parts::judge::Judges;
 use parts::waiting::Looks;
 use parts::{
     damaged, edges, foretold, judge, maps, messages, names, odd, out, replies, runs, setups, small, states,
-    twelve, waiting,
+    totalled, twelve, waiting,
 };
 use play::Finding;
 use table::Table;
@@ -98,6 +100,7 @@ fn compare(
     table.padded = [along_runs.padded, from_states.padded];
     table.befallen = [along_runs.befallen, from_states.befallen];
     table.foretold = [without_buffer.foretold, from_states.foretold];
+    table.totalled = [without_buffer.totalled, from_states.totalled];
     table.damage("every byte damaged", &damaged::every_byte(both, total, &mut rng)?);
     table.damage("parts mixed up", &damaged::mixed_up(both, total / 4, &mut rng)?);
     table.damage("random bytes", &damaged::random_bytes(both, total / 8, &mut rng)?);
@@ -119,6 +122,7 @@ fn edges_of_requests(both: &Both, total: u64, table: &mut Table, rng: &mut Rng) 
     table.texts = names::texts(both, total, rng)?;
     table.line("a queue for CarrierOut", &out::compare(both)?);
     table.line("prediction of ready to unload", &foretold::compare(both)?);
+    table.line("where Tp comes from", &totalled::compare(both, total / 4, rng)?);
     table.line("every state of small tools with a queue", &small::queues(both)?);
     table.line("every state of small tools that foretell", &small::predictions(both)?);
     table.line("set-ups in and out of range", &setups::compare(both, rng)?);

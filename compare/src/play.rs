@@ -9,6 +9,7 @@ use crate::pairs::Pairs;
 use crate::predict::Foretold;
 use crate::queue::Befallen;
 use crate::script::{tabled, Run};
+use crate::wafers::Totalled;
 
 /// What ends the comparison.
 #[derive(Debug)]
@@ -36,8 +37,8 @@ pub enum Finding {
 }
 
 /// How many inputs were compared, how many of them were accepted, which pairs were met, how many slot maps
-/// were OK at once, how many accepted inputs had a name with blanks at its end, and what befell the queues and the
-/// predictions.
+/// were OK at once, how many accepted inputs had a name with blanks at its end, what befell the queues and the
+/// predictions, and what the wafers were.
 #[derive(Clone, Copy, Default)]
 pub struct Tally {
     pub inputs: u64,
@@ -47,6 +48,7 @@ pub struct Tally {
     pub padded: u64,
     pub befallen: Befallen,
     pub foretold: Foretold,
+    pub totalled: Totalled,
 }
 
 impl Tally {
@@ -58,6 +60,7 @@ impl Tally {
         self.padded += (o.accepted() && padded(input)) as u64;
         self.befallen.note(before, input, o);
         self.foretold.note(before, input, o);
+        self.totalled.note(before, input, o);
     }
 
     pub fn percent(&self) -> f64 {

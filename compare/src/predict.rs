@@ -8,6 +8,7 @@ use independent::{Carrier, Report};
 
 use crate::laws::shortened;
 use crate::machine::Outcome;
+use crate::wafers;
 
 /// Why an outcome on which the programs agree is against P7.
 pub fn unlawful(before: &Tool, input: &Input, o: &Outcome) -> Option<String> {
@@ -22,7 +23,7 @@ pub fn unlawful(before: &Tool, input: &Input, o: &Outcome) -> Option<String> {
 }
 
 fn brings_clock(input: &Input) -> bool {
-    (31..=34).contains(&input.number)
+    (31..=35).contains(&input.number)
 }
 
 /// Each record with its prediction.
@@ -46,7 +47,7 @@ fn badly_refused(before: &Tool, input: &Input, o: &Outcome) -> Option<String> {
     }
     let named = all(before).find(|(c, _)| unpadded(&c.name) == shortened(&input.name)).map(|(_, p)| p);
     let holds = match (input.number, named) {
-        (32, Some(p)) => p.state == 3 && p.tp().is_none(),
+        (32 | 35, Some(p)) => p.state == 3 && p.tp().is_none(),
         (33, Some(p)) => p.tp().is_some(),
         (34, Some(p)) => p.state == 3,
         (number, _) => number == 31,
@@ -83,9 +84,9 @@ fn rows_of(old: u8, new: u8) -> &'static [u32] {
         (0, 2) => &[1, 3, 5, 6, 16],
         (1..=6, 0) => &[2, 4, 16, 25],
         (2, 3) | (2, 1) => &[6, 21],
-        (3, 4) => &[6, 31, 32, 33, 34],
-        (4, 6) | (5, 6) => &[6, 23, 26, 31, 32, 33, 34],
-        (3, 5) | (4, 5) => &[31, 32, 33, 34],
+        (3, 4) => &[6, 31, 32, 33, 34, 35],
+        (4, 6) | (5, 6) => &[6, 23, 26, 31, 32, 33, 34, 35],
+        (3, 5) | (4, 5) => &[31, 32, 33, 34, 35],
         _ => &[],
     }
 }
@@ -135,10 +136,10 @@ fn badly_kept(before: &Tool, input: &Input, o: &Outcome) -> Option<String> {
             continue;
         };
         let own = unpadded(&c.name) == shortened(&input.name);
-        let told = own && input.number == 32 && was.tp().is_none();
+        let told = own && [32, 35].contains(&input.number) && was.tp().is_none();
         let cancelled = own && input.number == 6 && was.state == 2 && before.predictions.setting() != 0;
         let tp = match (told, cancelled) {
-            (true, _) => Some(input.time),
+            (true, _) => told_tp(input),
             (_, true) => Some(before.predictions.clock()),
             _ => was.tp(),
         };
@@ -151,6 +152,14 @@ fn badly_kept(before: &Tool, input: &Input, o: &Outcome) -> Option<String> {
         }
     }
     None
+}
+
+/// The Tp that an input tells.
+fn told_tp(input: &Input) -> Option<u32> {
+    match input.number {
+        32 => Some(input.time),
+        _ => wafers::tp(input.clock, &input.times()),
+    }
 }
 
 /// What no carrier is left in: PREDICTED or ABORTED at a port that is READY TO UNLOAD; and after an input that brings the

@@ -45,8 +45,17 @@ fn missing(one: u32, other: u32) -> String {
 }
 
 pub fn line(i: &Input) -> String {
-    let (name, codes, times) = (hex(&i.name), hex(&i.codes), missing(i.clock, i.time));
+    let (name, codes, times) = (hex(&i.name), hex(&i.codes), times(i));
     format!("in {} {} {} {name} {codes}{times}", i.number, i.port, i.value)
+}
+
+/// The clock, the time and the wafers, where they aren't missing: the bits of each float, the high byte first.
+fn times(i: &Input) -> String {
+    if i.wafers.is_empty() {
+        return missing(i.clock, i.time);
+    }
+    let bytes: Vec<u8> = i.wafers.iter().flat_map(|bits| bits.to_be_bytes()).collect();
+    format!(" {} {} {}", i.clock, i.time, hex(&bytes))
 }
 
 /// ANSWER COUNT [MODEL SUBJECT OLD NEW; ..]
@@ -235,6 +244,16 @@ mod tests {
         assert_eq!(run.script(), format!("{}\n", lines.join("\n")));
         run = Run { setup: SetUp::fixed(1, 60, 0), inputs: vec![] };
         assert_eq!(run.script(), "setup 1 0 60\n");
+    }
+
+    #[test]
+    fn wafers_are_the_bits_of_their_times() {
+        let mut i = Input { number: 35, name: b"A".to_vec(), clock: 7, ..Input::default() };
+        assert_eq!(line(&i), "in 35 0 0 41 - 7");
+        i.wafers = vec![1.5f64.to_bits(), (-0.0f64).to_bits()];
+        assert_eq!(line(&i), "in 35 0 0 41 - 7 0 3ff80000000000008000000000000000");
+        i.clock = 0;
+        assert_eq!(line(&i), "in 35 0 0 41 - 0 0 3ff80000000000008000000000000000");
     }
 
     #[test]

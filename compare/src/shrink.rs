@@ -220,9 +220,38 @@ fn plainer(input: &Input) -> Vec<Input> {
     ];
     let size = |i: &Input| {
         let sum: u32 = i.codes.iter().map(|&code| code as u32).sum();
-        (i.codes.len(), sum, i.name.len(), i.port, i.value, i.clock, i.time)
+        let times: usize = i.wafers.iter().map(|&bits| plainness(bits)).sum();
+        ((i.wafers.len(), times), i.codes.len(), sum, i.name.len(), i.port, i.value, i.clock, i.time)
     };
-    all.into_iter().chain(clocks).chain(times).filter(|one| size(one) < size(input)).collect()
+    let wafers = fewer_wafers(&input.wafers).into_iter().map(|wafers| Input { wafers, ..input.clone() });
+    all.into_iter().chain(clocks).chain(times).chain(wafers).filter(|one| size(one) < size(input)).collect()
+}
+
+/// Times that are plain, the plainest first: none, a second, 1/1024, and the longest.
+const PLAIN: [u64; 4] = [0, 0x3FF0_0000_0000_0000, 0x3F50_0000_0000_0000, 0x412F_FFFF_FF80_0000];
+
+fn plainness(time: u64) -> usize {
+    PLAIN.iter().position(|&plain| plain == time).unwrap_or(PLAIN.len())
+}
+
+/// The times without some wafers, without all that are 0, and with a plain one for each.
+fn fewer_wafers(times: &[u64]) -> Vec<Vec<u64>> {
+    let mut filled: Vec<u64> = times.iter().copied().filter(|&time| time != 0).collect();
+    filled.resize(filled.len() + (filled.len() + times.len()) % 2, 0);
+    let mut all = vec![Vec::new(), times[..times.len() / 4 * 2].to_vec(), filled];
+    for at in (0..times.len()).step_by(2) {
+        let mut fewer = times.to_vec();
+        fewer.drain(at..(at + 2).min(times.len()));
+        all.push(fewer);
+    }
+    for at in 0..times.len() {
+        for plain in PLAIN {
+            let mut plainer = times.to_vec();
+            plainer[at] = plain;
+            all.push(plainer);
+        }
+    }
+    all
 }
 
 fn plainer_inputs(both: &Both, best: &mut Run) {

@@ -2,7 +2,7 @@
 
 use std::process::ExitCode;
 
-use independent::gen::requests::{BEFALLS, FORETELLS};
+use independent::gen::requests::{BEFALLS, FORETELLS, TOTALS};
 
 use crate::pairs::{allowed, Pairs};
 use crate::parts::damaged::Damage;
@@ -14,6 +14,7 @@ use crate::parts::waiting::Tables;
 use crate::play::Tally;
 use crate::predict::Foretold;
 use crate::queue::Befallen;
+use crate::wafers::Totalled;
 
 /// Runs that refuse most of what they are given would show little.
 const LEAST_ACCEPTED: f64 = 60.0;
@@ -31,6 +32,8 @@ pub struct Table {
     pub befallen: [Befallen; 2],
     /// What befell the predictions, along the runs without a buffer and from states.
     pub foretold: [Foretold; 2],
+    /// What wafers were, along the runs without a buffer and from states.
+    pub totalled: [Totalled; 2],
     pub texts: Texts,
     pub tables: Tables,
     pub messages: Messages,
@@ -77,12 +80,14 @@ impl Table {
         let pairs = self.along_runs.missing().iter().map(|(row, answer)| format!("{row} {answer}")).collect();
         let [queues_of_runs, queues_of_states] = self.befallen;
         let [predictions_of_runs, predictions_of_states] = self.foretold;
-        let parts: [(&str, Vec<String>); 8] = [
+        let [wafers_of_runs, _] = self.totalled;
+        let parts: [(&str, Vec<String>); 9] = [
             ("along the runs, row and answer", pairs),
             ("along the runs, by a queue", queues_of_runs.unmet()),
             ("from states, by a queue", queues_of_states.unmet()),
             ("along the runs, by a prediction", predictions_of_runs.unmet()),
             ("from states, by a prediction", predictions_of_states.unmet()),
+            ("along the runs, of wafers", wafers_of_runs.unmet()),
             ("among the messages", self.messages.unmet()),
             ("among the messages that are answered", self.replies.unmet()),
             ("among the logs", self.logs.unmet()),
@@ -114,6 +119,8 @@ impl Table {
         let ([runs, states], all) = (self.foretold.map(|foretold| foretold.met()), FORETELLS.len());
         let most = self.foretold.map(|foretold| foretold.most).into_iter().max().unwrap_or(0);
         println!("of {all} things that may befall a prediction {runs} did along the runs, {states} from random sound states");
+        let ([runs, states], all) = (self.totalled.map(|totalled| totalled.met()), TOTALS.len());
+        println!("of {all} things that wafers may be {runs} were met along the runs, {states} from random sound states");
         println!("an input gave {most} reports at most");
         let Texts { compared, names } = self.texts;
         println!("{compared} texts were given to the name check alone, {names} of them have a name");
@@ -137,13 +144,14 @@ mod tests {
     #[test]
     fn what_is_not_met_is_told() {
         let lines = Table::default().unmet();
-        assert_eq!(lines.len(), 11, "{lines:?}");
+        assert_eq!(lines.len(), 12, "{lines:?}");
         assert!(lines[1].starts_with("NOT MET along the runs, by a queue: CancelCarrier of"), "{lines:?}");
         assert!(
             lines[3].starts_with("NOT MET along the runs, by a prediction: Tp at the setting"),
             "{lines:?}"
         );
-        assert_eq!(lines[7], "NOT MET among the logs: agrees, disagrees, 27, 28, 29");
-        assert_eq!(lines[9], "NO SLOT MAP was OK at once along the runs, or none from states");
+        assert!(lines[5].starts_with("NOT MET along the runs, of wafers: no wafers, one wafer"), "{lines:?}");
+        assert_eq!(lines[8], "NOT MET among the logs: agrees, disagrees, 27, 28, 29");
+        assert_eq!(lines[10], "NO SLOT MAP was OK at once along the runs, or none from states");
     }
 }

@@ -15,7 +15,7 @@ use independent::{Report, Reports};
 
 use crate::machine::{Both, Bridged, Heard, Independent, Machine, Outcome, SetUp};
 use crate::parts::{
-    damaged, edges, foretold, maps, messages, names, odd, out, runs, setups, small, states, twelve,
+    damaged, edges, foretold, maps, messages, names, odd, out, runs, setups, small, states, totalled, twelve,
 };
 use crate::play::{Finding, Player, Tally};
 use crate::script::Run;
@@ -130,7 +130,7 @@ fn found(ports: u32, places: u32, fault: impl Fn(&Tool, &Input, &mut Outcome)) -
     let mut tally = Tally::default();
     let mut player = Player::begin(&both, &mut tally, ports, places).unwrap();
     let mut rng = Rng::new(3);
-    for _ in 0..20_000 {
+    for _ in 0..60_000 {
         let input = random_run_input(&player.tool, &mut rng);
         match player.give(input) {
             Ok(_) => {}
@@ -213,12 +213,13 @@ fn first_finding(both: &Both) -> Option<Finding> {
         names::texts(both, 5_000, &mut rng)?;
         out::compare(both)?;
         foretold::compare(both)?;
+        totalled::compare(both, 5_000, &mut rng)?;
         small::queues(both)?;
         small::predictions(both)?;
         setups::compare(both, &mut rng)?;
         runs::compare(both, 5_000, &mut rng)?;
         runs::without_buffer(both, 5_000, &mut rng)?;
-        states::compare(both, 5_000, &mut rng)?;
+        states::compare(both, 20_000, &mut rng)?;
         damaged::every_byte(both, 1, &mut rng)?;
         damaged::mixed_up(both, 2_000, &mut rng)?;
         damaged::random_bytes(both, 2_000, &mut rng)?;

@@ -14,14 +14,15 @@ pub mod runs;
 pub mod setups;
 pub mod small;
 pub mod states;
+pub mod totalled;
 pub mod twelve;
 pub mod waiting;
 
 use independent::gen::Input;
 
 /// Numbers that are near a limit, or that one is tempted to cut short.
-pub const ODD: [u32; 14] =
-    [0, 5, 17, 26, 27, 34, 35, 255, 256, 257, 1 << 16, 1 << 31, (1 << 31) - 1, u32::MAX];
+pub const ODD: [u32; 15] =
+    [0, 5, 17, 26, 27, 34, 35, 36, 255, 256, 257, 1 << 16, 1 << 31, (1 << 31) - 1, u32::MAX];
 
 /// What a good number becomes where its high bits are lost.
 pub const LOST: [u32; 3] = [1 << 8, 1 << 16, 1 << 31];
@@ -38,6 +39,11 @@ pub fn input(number: u32, port: u32, value: u32, name: &[u8], codes: &[u8]) -> I
 /// An input that brings the clock.
 pub fn timed(number: u32, clock: u32, name: &[u8], time: u32) -> Input {
     Input { clock, time, ..named(number, name) }
+}
+
+/// An input that brings the clock and the times of wafers.
+pub fn wafers(clock: u32, name: &[u8], times: &[f64]) -> Input {
+    Input { clock, wafers: times.iter().map(|time| time.to_bits()).collect(), ..named(35, name) }
 }
 
 /// An input that names a port alone.

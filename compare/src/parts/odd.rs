@@ -1,11 +1,11 @@
 //! Odd numbers for number, port, value, clock and time, names of up to 300 bytes of every value,
-//! and codes of every length and value.
+//! codes of every length and value, and times of wafers of any bits.
 
-use independent::gen::requests::{random_run_input, random_times};
+use independent::gen::requests::{random_run_input, random_time, random_times};
 use independent::gen::{Input, Rng};
 use independent::requests::INPUTS;
 
-use super::{at, input, named, timed, LOST, ODD};
+use super::{at, input, named, timed, wafers, LOST, ODD};
 use crate::machine::{Both, SetUp};
 use crate::play::{Finding, Player, Tally};
 
@@ -40,6 +40,7 @@ fn every_number(both: &Both, tally: &mut Tally) -> Result<(), Finding> {
         for row in [31, 32, 33, 34] {
             player.look(&timed(row, odd, b"A", odd))?;
         }
+        player.look(&wafers(odd, b"A", &[odd as f64; 2]))?;
     }
     for row in 1..=INPUTS {
         for high in LOST {
@@ -114,13 +115,14 @@ fn some_state(both: &Both, tally: &mut Tally, rng: &mut Rng) -> Result<(), Findi
 
 /// A good input with one part that is odd.
 fn made_odd(mut input: Input, rng: &mut Rng) -> Input {
-    match rng.below(7) {
+    match rng.below(8) {
         0 => input.number = odd_number(input.number, rng),
         1 => input.port = odd_number(input.port, rng),
         2 => input.value = odd_number(input.value, rng),
         3 => input.clock = odd_number(input.clock, rng),
         4 => input.time = odd_number(input.time, rng),
         5 => input.name = odd_name(&input.name, rng),
+        6 => input.wafers = odd_wafers(rng),
         _ => input.codes = odd_codes(&input.codes, rng),
     }
     input
@@ -155,6 +157,12 @@ fn odd_name(good: &[u8], rng: &mut Rng) -> Vec<u8> {
         }
     }
     name
+}
+
+/// Times of any bits, and of any number.
+fn odd_wafers(rng: &mut Rng) -> Vec<u64> {
+    let count = rng.pick(&[0, 1, 2, 2, 3, 49, 50, 50, 51, 52, 102, 258, 300]);
+    (0..count).map(|_| random_time(rng)).collect()
 }
 
 /// Codes of another length, or with one code changed; or any bytes.

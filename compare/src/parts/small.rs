@@ -9,7 +9,7 @@ use independent::gen::Input;
 use independent::requests::Tool;
 use independent::Plain;
 
-use super::{at, input, named, timed};
+use super::{at, input, named, timed, wafers};
 use crate::machine::{Both, SetUp};
 use crate::play::{from_state, Finding, Player, Tally};
 
@@ -212,9 +212,17 @@ fn told(small: &Foretelling) -> Vec<Input> {
             all.extend(small.tps.iter().map(|&tp| timed(32, clock, name, tp)));
             all.extend(small.tes.iter().map(|&te| timed(33, clock, name, te)));
             all.push(timed(34, clock, name, 0));
+            all.extend(small.tps.iter().filter_map(|&tp| totalled(clock, name, tp)));
         }
     }
     all
+}
+
+/// One wafer that comes to a Tp, or nothing where it can't: a Tp in the past, or one too far ahead.
+fn totalled(clock: u32, name: &[u8], tp: u32) -> Option<Input> {
+    let seconds = tp.checked_sub(clock).filter(|&seconds| seconds < 1 << 20)?;
+    let handling = if seconds == 0 { -0.0 } else { 1.0 / 1024.0 };
+    Some(wafers(clock, name, &[seconds.saturating_sub(1) as f64, handling]))
 }
 
 /// A state by two hashes, so that many states take little room.

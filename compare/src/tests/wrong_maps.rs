@@ -106,8 +106,11 @@ fn a_cut_map_is_found() {
 #[test]
 fn an_id_that_is_asked_for_is_found_from_states() {
     let faulty = Faulty(|before, input, o| {
+        if input.number != 20 || !o.accepted() {
+            return;
+        }
         let ok = position(before, input).is_some_and(|at| before.base.carrier[at].id == 3);
-        if input.number == 20 && o.accepted() && !ok && right(before, input) == 25 {
+        if !ok && right(before, input) == 25 {
             set_status(input, o, 2);
         }
     });

@@ -17,10 +17,10 @@ pub const TP: u32 = 32;
 pub const TE: u32 = 33;
 pub const NONE: u32 = 34;
 
-const LAST: u32 = u32::MAX;
+pub const LAST: u32 = u32::MAX;
 
 /// An input that is accepted, its reports, and the predictions after it: NAME STATE TP TE of each record.
-type Told<'a> = (Input, &'a str, &'a str);
+pub type Told<'a> = (Input, &'a str, &'a str);
 
 pub fn compare(both: &Both) -> Result<Tally, Finding> {
     let mut tally = Tally::default();
@@ -48,7 +48,7 @@ pub fn compare(both: &Both) -> Result<Tally, Finding> {
 }
 
 /// The predictions of a tool, as `Told` has them.
-fn predictions(player: &Player) -> String {
+pub fn predictions(player: &Player) -> String {
     let tool = &player.tool;
     let time = |time: Option<u32>| time.map_or("-".to_string(), |time| time.to_string());
     let one = |(c, p): (&independent::Carrier, &independent::requests::predict::Prediction)| {
@@ -60,7 +60,7 @@ fn predictions(player: &Player) -> String {
 }
 
 /// Carriers of these names come to ports 1, 2 and so on, are verified and accessed.
-fn accessed<'a>(
+pub fn accessed<'a>(
     both: &'a Both,
     tally: &'a mut Tally,
     (setting, timeout): (u32, u32),
@@ -74,7 +74,7 @@ fn accessed<'a>(
     Ok(player)
 }
 
-fn access(player: &mut Player, port: u32, name: &[u8]) -> Result<(), Finding> {
+pub fn access(player: &mut Player, port: u32, name: &[u8]) -> Result<(), Finding> {
     let before = [input(1, port, 0, name, b""), at(13, port), at(14, port), input(16, port, 0, name, b"")];
     let map = input(20, 0, 0, name, &[3; 25]);
     for input in before.into_iter().chain([named(19, name), map, named(5, name), named(21, name)]) {
@@ -84,14 +84,14 @@ fn access(player: &mut Player, port: u32, name: &[u8]) -> Result<(), Finding> {
 }
 
 /// The access ends, and the carrier is closed.
-fn finish(player: &mut Player, name: &[u8]) -> Result<(), Finding> {
+pub fn finish(player: &mut Player, name: &[u8]) -> Result<(), Finding> {
     player.expect(named(22, name), 0)?;
     player.expect(named(23, name), 0)?;
     Ok(())
 }
 
 /// Gives the inputs one after another.
-fn tell(player: &mut Player, story: &[Told]) -> Result<(), Finding> {
+pub fn tell(player: &mut Player, story: &[Told]) -> Result<(), Finding> {
     for (input, reports, left) in story {
         player.expect_reports(input, reports)?;
         player.expect(input.clone(), 0)?;
@@ -101,18 +101,18 @@ fn tell(player: &mut Player, story: &[Told]) -> Result<(), Finding> {
     Ok(())
 }
 
-fn clock(clock: u32) -> Input {
+pub fn clock(clock: u32) -> Input {
     timed(CLOCK, clock, b"", 0)
 }
 
-fn tp(clock: u32, name: &[u8], tp: u32) -> Input {
+pub fn tp(clock: u32, name: &[u8], tp: u32) -> Input {
     timed(TP, clock, name, tp)
 }
 
-fn te(clock: u32, name: &[u8], te: u32) -> Input {
+pub fn te(clock: u32, name: &[u8], te: u32) -> Input {
     timed(TE, clock, name, te)
 }
 
-fn none(clock: u32, name: &[u8]) -> Input {
+pub fn none(clock: u32, name: &[u8]) -> Input {
     timed(NONE, clock, name, 0)
 }

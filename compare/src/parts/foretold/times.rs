@@ -38,10 +38,10 @@ fn one(both: &Both, tally: &mut Tally, setup: SetUp, good: bool) -> Result<(), F
     Ok(())
 }
 
-/// Numbers from 35 on are none; parts that a row doesn't name are not looked at.
+/// Numbers from 36 on are none; parts that a row doesn't name are not looked at.
 pub fn numbers(both: &Both, tally: &mut Tally) -> Result<(), Finding> {
     let mut player = accessed(both, tally, (60, 120), &[b"A"])?;
-    for number in (35..=300).chain(LOST.iter().flat_map(|high| [31, 32, 33, 34].map(|row| row + high))) {
+    for number in (36..=300).chain(LOST.iter().flat_map(|high| [31, 32, 33, 34, 35].map(|row| row + high))) {
         player.expect_look(&timed(number, 9, b"A", 9), 1)?;
     }
     let odd = |told: Input| Input { port: 9, value: LAST, codes: vec![9; 30], ..told };

@@ -19,7 +19,12 @@ fn is(input: &Input, o: &Outcome, row: u32, answer: u32) -> bool {
 }
 
 fn brings_clock(input: &Input) -> bool {
-    (31..=34).contains(&input.number)
+    (31..=35).contains(&input.number)
+}
+
+/// The Tp of wafers that are accepted.
+fn by_wafers(input: &Input) -> u32 {
+    crate::wafers::tp(input.clock, &input.times()).expect("a Tp")
 }
 
 /// Where the record stands that an input names.
@@ -105,6 +110,7 @@ impl Judging {
         match (input.number, named(before, input)) {
             (32, Some(i)) => o.tool.predictions.of[i].set_tp(input.time),
             (33, Some(i)) => o.tool.predictions.of[i].set_te(input.time),
+            (35, Some(i)) => o.tool.predictions.of[i].set_tp(by_wafers(input)),
             (34, Some(i)) => self.turn(o, i, 5),
             _ => {}
         }

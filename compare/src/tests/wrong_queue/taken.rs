@@ -127,7 +127,7 @@ fn a_wrong_out_start_is_found() {
     };
     for fault in [five_first, over_the_host] {
         let (run, row) = caught_small(fault);
-        assert_eq!((row, run.inputs.len() <= 8), (27, true), "{}", run.script());
+        assert_eq!((row, run.inputs.len() <= 9), (27, true), "{}", run.script());
     }
 }
 
