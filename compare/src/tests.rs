@@ -7,6 +7,7 @@ mod wrong_names;
 mod wrong_predict;
 mod wrong_queue;
 mod wrong_replies;
+mod wrong_wafers;
 
 use independent::gen::requests::random_run_input;
 use independent::gen::{Input, Rng};
