@@ -32,12 +32,39 @@ impl SetUp {
 
 pub trait Machine {
     fn setup(&self, of: SetUp, tool: &mut Tool) -> u32;
+    /// An input by the function that is its own.
     fn step(&self, tool: &mut Tool, input: &Input, reports: &mut Reports) -> u32;
+    /// An input of any number by one of the functions.
+    fn by(&self, way: Way, tool: &mut Tool, input: &Input, reports: &mut Reports) -> u32;
     fn sound(&self, tool: &Tool) -> u32;
     /// How many bytes of a text are its name; 0 where there is none.
     fn name(&self, text: &[u8]) -> u32;
     /// Reads a message and gives the tool what it asks for.
     fn secs(&self, tool: &mut Tool, message: &[u8], reports: &mut Reports) -> Heard;
+}
+
+/// The function for all inputs, and the one for times.
+#[derive(Clone, Copy, Debug, PartialEq, Eq)]
+pub enum Way {
+    Step,
+    TimeStep,
+}
+
+impl std::fmt::Display for Way {
+    fn fmt(&self, f: &mut std::fmt::Formatter) -> std::fmt::Result {
+        f.write_str(match self {
+            Way::Step => "hm_step",
+            Way::TimeStep => "hm_time_step",
+        })
+    }
+}
+
+impl Way {
+    pub fn outcome(self, machine: &dyn Machine, tool: &Tool, input: &Input) -> Outcome {
+        let mut o = Outcome { answer: 0, tool: *tool, reports: left_over() };
+        o.answer = machine.by(self, &mut o.tool, input, &mut o.reports);
+        o
+    }
 }
 
 /// What is said of a message.
@@ -68,16 +95,22 @@ impl Machine for Proved {
     }
 
     fn step(&self, tool: &mut Tool, i: &Input, reports: &mut Reports) -> u32 {
-        if is_timed(i.number) {
-            // SAFETY: the sizes agree.
-            return unsafe { raw::time_step(lent(tool), lent(reports), i.number, i.clock, &i.name, i.time) };
-        }
         if i.number == WAFERS {
             // SAFETY: the sizes agree.
             return unsafe { library::wafers_step(tool, i, reports) };
         }
+        self.by(if is_timed(i.number) { Way::TimeStep } else { Way::Step }, tool, i, reports)
+    }
+
+    fn by(&self, way: Way, tool: &mut Tool, i: &Input, reports: &mut Reports) -> u32 {
+        let (tool, reports) = (lent(tool), lent(reports));
         // SAFETY: the sizes agree.
-        unsafe { raw::step(lent(tool), lent(reports), i.number, i.port, i.value, &i.name, &i.codes) }
+        unsafe {
+            match way {
+                Way::Step => raw::step(tool, reports, i.number, i.port, i.value, &i.name, &i.codes),
+                Way::TimeStep => raw::time_step(tool, reports, i.number, i.clock, &i.name, i.time),
+            }
+        }
     }
 
     fn sound(&self, tool: &Tool) -> u32 {
@@ -112,6 +145,13 @@ impl Machine for Independent {
 
     fn step(&self, tool: &mut Tool, input: &Input, reports: &mut Reports) -> u32 {
         gen::step(tool, input, reports)
+    }
+
+    fn by(&self, way: Way, tool: &mut Tool, i: &Input, reports: &mut Reports) -> u32 {
+        match way {
+            Way::Step => requests::step(tool, i.number, i.port, i.value, &i.name, &i.codes, reports),
+            Way::TimeStep => requests::time_step(tool, i.number, i.clock, &i.name, i.time, reports),
+        }
     }
 
     fn sound(&self, tool: &Tool) -> u32 {

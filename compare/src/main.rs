@@ -32,7 +32,7 @@ use parts::judge::Judges;
 use parts::waiting::Looks;
 use parts::{
     damaged, edges, foretold, judge, maps, messages, names, odd, out, replies, runs, setups, small, states,
-    totalled, twelve, waiting,
+    totalled, twelve, waiting, ways,
 };
 use play::Finding;
 use table::Table;
@@ -91,8 +91,9 @@ fn compare(
     edges_of_requests(both, total, &mut table, &mut rng)?;
     let along_runs = runs::compare(both, total, &mut rng)?;
     table.line("random runs, every P and B", &along_runs);
-    (table.along_runs, table.runs_accepted) = (along_runs.pairs, along_runs.percent());
+    table.runs_accepted = along_runs.percent();
     let without_buffer = runs::without_buffer(both, total, &mut rng)?;
+    table.along_runs = along_runs.pairs.or(&without_buffer.pairs);
     table.line("random runs with predictions, B = 0", &without_buffer);
     let from_states = states::compare(both, total, &mut rng)?;
     table.line("inputs from random sound states", &from_states);
@@ -105,6 +106,7 @@ fn compare(
     table.damage("parts mixed up", &damaged::mixed_up(both, total / 4, &mut rng)?);
     table.damage("random bytes", &damaged::random_bytes(both, total / 8, &mut rng)?);
     table.line("odd numbers, names and codes", &odd::compare(both, total / 2, &mut rng)?);
+    table.by_others = ways::compare(both)?;
     table.tables = waiting::compare(looks, total, &mut rng)?;
     let messages = if total <= 100_000 { total / 5 } else { total };
     table.messages = messages::compare(both, messages, &mut rng)?;

@@ -75,6 +75,11 @@ impl Pairs {
         }
     }
 
+    /// The pairs met by either.
+    pub fn or(&self, other: &Pairs) -> Pairs {
+        Pairs(std::array::from_fn(|row| self.0[row] | other.0[row]))
+    }
+
     pub fn met(&self) -> usize {
         self.0.iter().map(|row| row.count_ones() as usize).sum()
     }
@@ -112,5 +117,8 @@ mod tests {
             pairs.meet(number, 1);
         }
         assert_eq!((pairs.met(), pairs.missing()), (139, vec![(21, 7)]));
+        let mut other = Pairs::default();
+        other.meet(21, 7);
+        assert_eq!((pairs.or(&other).met(), other.or(&other).met()), (140, 1));
     }
 }

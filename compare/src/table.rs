@@ -34,6 +34,8 @@ pub struct Table {
     pub foretold: [Foretold; 2],
     /// What wafers were, along the runs without a buffer and from states.
     pub totalled: [Totalled; 2],
+    /// Inputs that were given by a function that isn't theirs.
+    pub by_others: u64,
     pub texts: Texts,
     pub tables: Tables,
     pub messages: Messages,
@@ -122,6 +124,7 @@ impl Table {
         let ([runs, states], all) = (self.totalled.map(|totalled| totalled.met()), TOTALS.len());
         println!("of {all} things that wafers may be {runs} were met along the runs, {states} from random sound states");
         println!("an input gave {most} reports at most");
+        println!("{} inputs were given by a function that isn't theirs", self.by_others);
         let Texts { compared, names } = self.texts;
         println!("{compared} texts were given to the name check alone, {names} of them have a name");
         let Tables { compared, waiting } = self.tables;

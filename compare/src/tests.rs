@@ -14,9 +14,10 @@ use independent::gen::{Input, Rng};
 use independent::requests::Tool;
 use independent::{Report, Reports};
 
-use crate::machine::{Both, Bridged, Heard, Independent, Machine, Outcome, SetUp};
+use crate::machine::{Both, Bridged, Heard, Independent, Machine, Outcome, SetUp, Way};
 use crate::parts::{
     damaged, edges, foretold, maps, messages, names, odd, out, runs, setups, small, states, totalled, twelve,
+    ways,
 };
 use crate::play::{Finding, Player, Tally};
 use crate::script::Run;
@@ -31,6 +32,10 @@ trait Wrong {
 
     fn step(&self, tool: &mut Tool, input: &Input, reports: &mut Reports) -> u32 {
         Independent.step(tool, input, reports)
+    }
+
+    fn by(&self, way: Way, tool: &mut Tool, input: &Input, reports: &mut Reports) -> u32 {
+        Independent.by(way, tool, input, reports)
     }
 
     fn sound(&self, tool: &Tool) -> u32 {
@@ -54,6 +59,10 @@ impl<W: Wrong> Machine for W {
 
     fn step(&self, tool: &mut Tool, input: &Input, reports: &mut Reports) -> u32 {
         Wrong::step(self, tool, input, reports)
+    }
+
+    fn by(&self, way: Way, tool: &mut Tool, input: &Input, reports: &mut Reports) -> u32 {
+        Wrong::by(self, way, tool, input, reports)
     }
 
     fn sound(&self, tool: &Tool) -> u32 {
@@ -226,6 +235,7 @@ fn first_finding(both: &Both) -> Option<Finding> {
         damaged::random_bytes(both, 2_000, &mut rng)?;
         odd::compare(both, 20_000, &mut rng)?;
         messages::compare(both, 5_000, &mut rng)?;
+        ways::compare(both)?;
         Ok(())
     };
     all().err()

@@ -17,6 +17,7 @@ pub mod states;
 pub mod totalled;
 pub mod twelve;
 pub mod waiting;
+pub mod ways;
 
 use independent::gen::Input;
 

@@ -96,6 +96,46 @@ fn other_refusals_are_found() {
     }
 }
 
+/// A program whose functions take other inputs than they should.
+struct Wayward(fn(Way, &Input) -> Option<Input>);
+
+impl Wrong for Wayward {
+    fn by(&self, way: Way, tool: &mut Tool, input: &Input, reports: &mut Reports) -> u32 {
+        match (self.0)(way, input) {
+            Some(other) => Independent.step(tool, &other, reports),
+            None => Independent.by(way, tool, input, reports),
+        }
+    }
+}
+
+/// Wafers that `hm_step` doesn't know or gives the clock before; and that `hm_time_step` takes.
+#[test]
+fn functions_that_take_other_inputs_are_found() {
+    let unknown: fn(Way, &Input) -> Option<Input> =
+        |way, input| (way == Way::Step && input.number == 35).then(|| Input { number: 0, ..input.clone() });
+    let with_its_clock: fn(Way, &Input) -> Option<Input> =
+        |way, input| (way == Way::Step && input.number == 35).then(|| input.clone());
+    let as_a_time: fn(Way, &Input) -> Option<Input> = |way, input| {
+        (way == Way::TimeStep && input.number == 35).then(|| Input { number: 32, ..input.clone() })
+    };
+    let no_wafers: fn(Way, &Input) -> Option<Input> = |way, input| {
+        (way == Way::TimeStep && input.number == 35).then(|| Input { wafers: vec![], ..input.clone() })
+    };
+    for (wayward, by) in
+        [(unknown, "step"), (with_its_clock, "step"), (as_a_time, "time"), (no_wafers, "time")]
+    {
+        let wrong = Wayward(wayward);
+        let both = Both { proved: &wrong, independent: &Independent };
+        let Err(Finding::Told(told)) = ways::compare(&both) else { panic!("not found") };
+        assert!(
+            told.contains(&format!("by hm_{by}")) && told.contains("\nin 35 1 0 41 - 7 9 3ff8"),
+            "{told}"
+        );
+        let alike = Both { proved: &wrong, independent: &wrong };
+        assert!(matches!(ways::compare(&alike), Err(Finding::Law(..))));
+    }
+}
+
 /// Wafers that aren't judged at once.
 #[test]
 fn wafers_that_are_not_judged_are_found() {
