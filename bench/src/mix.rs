@@ -111,8 +111,8 @@ pub fn record(count: usize, carriers: usize) -> Mix {
     mix
 }
 
-/// `count` inputs at P = 4, B = 0, setting 60 and timeout 120, with clocks, Tps, Tes and wafers. A clock that would leap to the
-/// end of all clocks is drawn anew, so that predictions go on.
+/// `count` inputs at P = 4, B = 0, setting 60 and timeout 120, with clocks, Tps, Tes and wafers. A clock that would leap
+/// to the end of all clocks is drawn anew, so that predictions go on.
 pub fn record_foretelling(count: usize) -> Mix {
     const LEAP: u32 = 200_000;
     let mut rng = Rng::new(31);

@@ -34,7 +34,6 @@ pub fn plainly_sound(t: &Tool) -> bool {
 }
 
 /// A carrier's prediction, and what it is told by.
-#[derive(Clone)]
 struct Foretold {
     name: [u8; 16],
     state: u8,
@@ -141,17 +140,9 @@ impl Plainly {
     }
 }
 
-/// What inputs 31 to 35 give from a sound state, for a name and a number of wafers that are good; `None` for other
-/// rows.
-pub fn step(before: &Tool, i: &Input) -> Option<(u32, Tool, Reports)> {
-    if !(31..=35).contains(&i.number) {
-        return None;
-    }
-    let by_wafers = plain_tp(i.clock, &i.times());
-    let mut p = Plainly::read(before, before);
-    let at = p.all.iter().position(|f| f.name == padded(if i.number == 31 { &[] } else { &i.name }));
-    let entry = at.map(|at| p.all[at].clone());
-    let wrong = match (i.number, &entry) {
+/// The lowest number that inputs 31 to 35 are refused for, where `at` is the record that is named.
+fn refusal(before: &Tool, i: &Input, p: &Plainly, at: Option<usize>) -> Option<u32> {
+    let wrong = match (i.number, at.map(|at| &p.all[at])) {
         (31, _) => false,
         _ if before.base.places > 0 => true,
         (32 | 35, Some(f)) => f.state != 3 || f.tp.is_some(),
@@ -163,20 +154,31 @@ pub fn step(before: &Tool, i: &Input) -> Option<(u32, Tool, Reports)> {
         (2, i.number != 31 && at.is_none()),
         (5, wrong),
         (11, (i.clock as u64) < p.now),
-        (12, i.number == 35 && by_wafers.is_none()),
+        (12, i.number == 35 && plain_tp(i.clock, &i.times()).is_none()),
     ];
-    if let Some((refusal, _)) = refusals.iter().find(|(_, applies)| *applies) {
-        return Some((*refusal, *before, Reports::NONE));
+    refusals.iter().find(|(_, applies)| *applies).map(|(refusal, _)| *refusal)
+}
+
+/// What inputs 31 to 35 give from a sound state, for a name and a number of wafers that are good; `None` for other
+/// rows.
+pub fn step(before: &Tool, i: &Input) -> Option<(u32, Tool, Reports)> {
+    if !(31..=35).contains(&i.number) {
+        return None;
+    }
+    let mut p = Plainly::read(before, before);
+    let at = p.all.iter().position(|f| f.name == padded(if i.number == 31 { &[] } else { &i.name }));
+    if let Some(refusal) = refusal(before, i, &p, at) {
+        return Some((refusal, *before, Reports::NONE));
     }
     p.now = i.clock as u64;
     match (i.number, at) {
         (32, Some(at)) => p.all[at].tp = Some(i.time as u64),
-        (35, Some(at)) => p.all[at].tp = by_wafers,
         (33, Some(at)) => p.all[at].te = Some(i.time as u64),
         (34, Some(at)) => {
             p.make(at, 27);
             p.make_ready(at);
         }
+        (35, Some(at)) => p.all[at].tp = plain_tp(i.clock, &i.times()),
         _ => {}
     }
     p.judge();
