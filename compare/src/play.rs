@@ -27,7 +27,7 @@ pub enum Finding {
     /// The programs agree, and the documents say otherwise.
     Document(Run, String),
     /// As `Document`, from a state that no run need reach.
-    Law(Box<Tool>, Input, String),
+    Law(Box<Tool>, Box<Input>, String),
     /// As `Document`, of the name in a text.
     NameLaw(Vec<u8>, String),
     /// The programs differ, or are both against the documents, in something that isn't an input: in words.
@@ -80,7 +80,7 @@ pub fn from_state(both: &Both, tally: &mut Tally, tool: &Tool, input: &Input) ->
         return Err(Finding::State(Box::new(*tool), input.clone()));
     };
     if let Some(why) = unlawful(tool, input, &o) {
-        return Err(Finding::Law(Box::new(*tool), input.clone(), why));
+        return Err(Finding::Law(Box::new(*tool), Box::new(input.clone()), why));
     }
     tally.note(tool, input, &o);
     Ok(o)

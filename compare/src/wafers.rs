@@ -19,7 +19,7 @@ pub fn tp(clock: u32, times: &[f64]) -> Option<u32> {
 
 /// Whether so many times are whole wafers, and not too many.
 pub fn counted(times: usize) -> bool {
-    times <= 50 && times % 2 == 0
+    times <= 50 && times.is_multiple_of(2)
 }
 
 /// Why an outcome on which the programs agree is against P8. What becomes of Tp is P7's.

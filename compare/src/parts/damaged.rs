@@ -125,7 +125,7 @@ fn one(both: &Both, damage: &mut Damage, tool: &Tool, input: &Input) -> Result<(
     damage.sound += sound as u64;
     if !sound && o.answer != 1 {
         let why = "a state that isn't sound is answered 1".into();
-        return Err(Finding::Law(Box::new(*tool), input.clone(), why));
+        return Err(Finding::Law(Box::new(*tool), Box::new(input.clone()), why));
     }
     Ok(())
 }

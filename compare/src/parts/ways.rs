@@ -70,5 +70,5 @@ fn held(holds: bool, why: &str, tool: &Tool, input: &Input) -> Result<(), Findin
     if holds {
         return Ok(());
     }
-    Err(Finding::Law(Box::new(*tool), input.clone(), format!("by this function it is {why}")))
+    Err(Finding::Law(Box::new(*tool), Box::new(input.clone()), format!("by this function it is {why}")))
 }

@@ -15,7 +15,7 @@ pub fn fraction(time: f64) -> Option<u128> {
     let over = time * UNDER as f64;
     // What is lost by this isn't a multiple of 1/2^52.
     let cut = over as u128;
-    (in_range && cut as f64 == over && cut % (UNDER / 1024) == 0).then_some(cut)
+    (in_range && cut as f64 == over && cut.is_multiple_of(UNDER / 1024)).then_some(cut)
 }
 
 /// The clock plus the total, rounded up to a second, if all times are good and it is below 4,294,967,296.

@@ -80,7 +80,7 @@ fn accepted(before: &Tool, i: &Input, parts: &[u64], all: &mut Vec<&'static str>
         (parts.is_empty(), "no wafers"),
         (parts.len() == 2, "one wafer"),
         (parts.len() == 2 * MOST, "25 wafers"),
-        (total > 0 && total % 1024 == 0, "a total of whole seconds"),
+        (total > 0 && total.is_multiple_of(1024), "a total of whole seconds"),
         (total % 1024 == 1, "a total one part past a second"),
         (total % 1024 == 1023, "a total one part short of a second"),
         (total.div_ceil(1024) < singly, "a total of less seconds than its wafers rounded singly"),

@@ -79,7 +79,7 @@ fn totals_by_chance() {
         let sum: f64 = times.iter().sum();
         assert_eq!((sum * 1024.0) as u64, total);
         let clock = rng.draw() as u32;
-        let expected = clock as u64 + (total + 1023) / 1024;
+        let expected = clock as u64 + total.div_ceil(1024);
         let tp = wafers::tp(clock, &times);
         assert_eq!(tp, u32::try_from(expected).ok());
         assert_eq!(tp.map(u64::from), plain_tp(clock, &times));
