@@ -3,32 +3,35 @@
  * Verify the pod before you open it.
  *
  * Three steps: hm_setup once, hm_step for every input, and after each accepted input pass the reports on. A fixed
- * buffer tool that predicts when a carrier is ready to unload calls hm_time_step, too, with the clock.
+ * buffer tool that predicts when a carrier is ready to unload calls hm_time_step, too, with the clock, or hm_wafers
+ * with the clock and the times that its wafers take.
  * A host's S3F17 goes to hm_secs_exchange as it came: the text is read, what it asks for is stepped, and the text of
  * S3F18, the answer to the host, is written into room that you lend. hm_secs_step is the same without the reply.
  * The rules are document 01's, with document 02's requests P1, expected maps, P3, SECS-II from the host bridge,
- * P4, names padded with blanks, P5, a queue for CarrierOut, P7, prediction of ready to unload, P2: hm_waiting, and P13,
- * answers to the bridge. hm_judge, P14, judges a log by document 01 without any request.
+ * P4, names padded with blanks, P5, a queue for CarrierOut, P7, prediction of ready to unload, P8, where the predicted
+ * time comes from, P2: hm_waiting, and P13, answers to the bridge. hm_judge, P14, judges a log by document 01 without
+ * any request.
  * C99, C11 and C++17.
  * Link with libhawsermole.a; see examples/firmware.c and examples/host_bridge.c. hawsermole_words.h has words for the
  * numbers, and a carrier by its name; hawsermole_events.h SEMI E87's numbers of what a report tells.
  * docs/LANDINGS.md is the list of changes.
  *
  * WHAT THE LIBRARY ANSWERS FOR
- * Every input is answered. The number, the port, the value and times may be any 32-bit number, the name, the codes, a
- * message and a log any bytes of any length, and the tool may hold any bytes. A refused input changes nothing in the
- * tool.
+ * Every input is answered. The number, the port, the value and times may be any 32-bit number, the times of wafers any
+ * doubles, in any number, NaN and infinities too, the name, the codes, a message and a log any bytes of any length, and
+ * the tool may hold any bytes. A refused input changes nothing in the tool.
  * A tool is plain bytes without pointers: it may be copied, compared with memcmp, kept in battery-backed memory
  * and handed back after a restart. A damaged one that is no longer sound is refused, never acted on. Sound is
  * not the same as true: damage that leaves a sound tool can't be seen, so keep a checksum beside a stored one.
  *
  * WHAT THE CALLER ANSWERS FOR (nothing checks these)
  * - Every pointer is valid for the whole of what it points to, and none is NULL, also where a length is 0:
- *   HM_NOTHING, with length 0, stands for no name, no codes, no message or no log.
+ *   HM_NOTHING, with length 0, stands for no name, no codes, no message or no log. hm_wafers alone takes NULL for no
+ *   wafers.
  * - What a call writes (the tool, the reports, the count of items, the room, the reply's length, what was found or
- *   judged) doesn't overlap, and none of it overlaps what it reads: the name, the codes, the message, the log. So don't
- *   pass a name that stands in that same tool or in those reports: copy it out first. Nor is a reply written over the
- *   message that it answers.
+ *   judged) doesn't overlap, and none of it overlaps what it reads: the name, the codes, the wafers, the message, the
+ *   log. So don't pass a name that stands in that same tool or in those reports: copy it out first. Nor is a reply
+ *   written over the message that it answers.
  * - One caller at a time for one tool, and nobody else reads or writes what a call was handed while it runs.
  *   Different tools may be used at the same time: the library keeps no state.
  * - An accepted input has had its whole effect in the record, whatever the machine has done so far. So it is sent when
@@ -52,8 +55,8 @@
 extern "C" {
 #endif
 
-/* The version of this header, 0x00MMmmpp: 0.10.0. hm_version is the archive's; compare the two once at start. */
-#define HM_VERSION 0x000A00
+/* The version of this header, 0x00MMmmpp: 0.11.0. hm_version is the archive's; compare the two once at start. */
+#define HM_VERSION 0x000B00
 
 /* Limits. */
 #define HM_PORTS 4                 /* a tool has 1 to 4 ports */
@@ -64,8 +67,11 @@ extern "C" {
 #define HM_SLOTS 25                /* codes of a slot map */
 #define HM_CODE_GREATEST 5         /* each code is 0 to 5 */
 #define HM_REPORTS 10              /* reports of one input; no input gives more than nine */
-#define HM_INPUTS 34               /* inputs are numbered 1 to 34 */
+#define HM_INPUTS 35               /* inputs are numbered 1 to 35 */
 #define HM_SECONDS_GREATEST 86400  /* setting time and timeout of predictions are 0 to 86,400 seconds each: a day */
+#define HM_WAFERS 25               /* wafers of one input, */
+#define HM_WAFER_PARTS 1024        /* each time of theirs a whole multiple of 1/1024 seconds */
+#define HM_WAFER_SECONDS 1048576   /* from 0 up to but not including 1,048,576 */
 #define HM_NAME_BYTES 16           /* a name is 1 to 16 bytes, */
 #define HM_NAME_BYTE_LEAST 0x21    /* each from 0x21 */
 #define HM_NAME_BYTE_GREATEST 0x7E /* to 0x7E */
@@ -135,17 +141,19 @@ enum hm_input {
     HM_INPUT_CLOCK = 31,                       /* clock; this one and the next three go to hm_time_step */
     HM_INPUT_PREDICTED_TIME = 32,              /* clock, name, time: when the carrier will be ready to unload, Tp */
     HM_INPUT_ESTIMATE = 33,                    /* clock, name, time: when it is expected to be by now, Te */
-    HM_INPUT_NO_PREDICTION = 34                /* clock, name: no time can be predicted */
+    HM_INPUT_NO_PREDICTION = 34,               /* clock, name: no time can be predicted */
+    HM_INPUT_WAFERS = 35                       /* clock, name, wafers: Tp by their times; it goes to hm_wafers */
 };
 
 /*
- * The answers of hm_step and hm_time_step: accepted, or the lowest refusal, 1 to 11, that applies. hm_setup answers 0
- * or 1. The last one is of the functions that write a reply, hm_reply and hm_secs_exchange, alone.
+ * The answers of hm_step, hm_time_step and hm_wafers: accepted, or the lowest refusal, 1 to 12, that applies. hm_setup
+ * answers 0 or 1. The last one is of the functions that write a reply, hm_reply and hm_secs_exchange, alone.
  */
 enum hm_answer {
     HM_ACCEPTED = 0,
-    HM_REFUSED_OUT_OF_RANGE = 1,          /* a port, place, value or name is outside its range, the input number
-                                             isn't 1 to 34, or the tool isn't sound: hm_sound tells which */
+    HM_REFUSED_OUT_OF_RANGE = 1,          /* a port, place, value or name is outside its range, there are more than 25
+                                             wafers, the input number isn't 1 to 35, or the tool isn't sound: hm_sound
+                                             tells which */
     HM_REFUSED_NO_RECORD = 2,             /* the name has no record */
     HM_REFUSED_NAME_TAKEN = 3,            /* the name is taken */
     HM_REFUSED_RESERVED_OR_TIED = 4,      /* the port is reserved or tied, or a request is started to it */
@@ -156,6 +164,7 @@ enum hm_answer {
     HM_REFUSED_QUEUE_FULL = 9,            /* 16 requests of CarrierOut are queued already, this carrier's too */
     HM_REFUSED_QUEUED_ALREADY = 10,       /* this carrier's CarrierOut is queued already, to whatever port */
     HM_REFUSED_CLOCK_EARLIER = 11,        /* the clock is earlier than the last that was accepted */
+    HM_REFUSED_TIME_OUT_OF_RANGE = 12,    /* a wafer's time isn't one that hm_wafer may hold, or Tp is past 2^32 - 1 */
     HM_REFUSED_ROOM_TOO_SMALL = 14        /* the reply is longer than the room lent for it: nothing was written */
 };
 
@@ -324,7 +333,16 @@ typedef struct hm_prediction {
     hm_time estimate;            /* Te, when has_estimate is 1; else 0 */
 } hm_prediction;
 
-/* Read it as you like; change it through hm_step and hm_time_step alone. Port number N is ports[N - 1]. */
+/*
+ * The times of a wafer, in seconds: each a whole multiple of 1/HM_WAFER_PARTS from 0 up to but not including
+ * HM_WAFER_SECONDS. Such times are added without any rounding, and minus zero counts as zero.
+ */
+typedef struct hm_wafer {
+    double process;
+    double handling;
+} hm_wafer;
+
+/* Read it as you like; change it through hm_step, hm_time_step and hm_wafers alone. Port number N is ports[N - 1]. */
 typedef struct hm_tool {
     uint8_t used;                                /* ports of this tool */
     uint8_t places;                              /* buffer places of this tool */
@@ -393,8 +411,8 @@ uint32_t hm_setup(hm_tool *tool, uint32_t ports, uint32_t places, uint32_t setti
  * A name is given by its own bytes and its own length, without the zeros that pad it inside the structs. Blanks at its
  * end are dropped before the row sees it: record, comparison and report have the name that hm_name tells. A text
  * that is no name is refused with 1 by every input that reads a name; length 0 alone is no name given.
- * Inputs 31 to 34 bring a clock, for which hm_step has no argument: it takes them with clock 0 and time 0, so that they
- * are refused with 11 once a later clock was accepted. hm_time_step is the one to call.
+ * Inputs 31 to 35 bring a clock, for which hm_step has no argument: it takes them with clock 0, time 0 and no wafers,
+ * so that they are refused with 11 once a later clock was accepted. hm_time_step and hm_wafers are the ones to call.
  */
 uint32_t hm_step(hm_tool *tool, hm_reports *reports, uint32_t number, uint32_t port, uint32_t value,
                  const uint8_t *name, uint64_t name_length, const uint8_t *codes, uint64_t codes_length);
@@ -403,8 +421,8 @@ uint32_t hm_step(hm_tool *tool, hm_reports *reports, uint32_t number, uint32_t p
  * Gives the tool an input that brings the clock, HM_INPUT_CLOCK to HM_INPUT_NO_PREDICTION; any other number is
  * answered 1. Answer, tool and reports are as hm_step leaves them, and the name is taken in the same way.
  * Send Clock as often as predictions are to be judged: once a second is enough. Send PredictedTime once for a carrier
- * that is WAITING FOR PREDICTION, as soon as you know when it will be ready to unload; Estimate whenever you have
- * calculated that time anew, or never; NoPrediction where it can't be known.
+ * that is WAITING FOR PREDICTION, as soon as you know when it will be ready to unload, or the times of its wafers by
+ * hm_wafers; Estimate whenever you have calculated that time anew, or never; NoPrediction where it can't be known.
  * Clock and time are whole seconds of one clock of yours, which may begin anywhere and never goes back: one earlier
  * than the last that was accepted is refused with 11, an equal one isn't. The time is Tp or Te, and may be earlier than
  * the clock. Clock reads neither name nor time, NoPrediction no time. For the inputs of hm_step it is the last clock
@@ -414,6 +432,14 @@ uint32_t hm_step(hm_tool *tool, hm_reports *reports, uint32_t number, uint32_t p
  */
 uint32_t hm_time_step(hm_tool *tool, hm_reports *reports, uint32_t number, uint32_t clock,
                       const uint8_t *name, uint64_t name_length, uint32_t time);
+
+/*
+ * What hm_wafers, below, calls: HM_INPUT_WAFERS with the times as they stand one after the other, process, handling,
+ * process, handling and so on. times_count counts doubles: an odd one, and one above 2 * HM_WAFERS, is answered 1, and
+ * no time is read then.
+ */
+uint32_t hm_wafers_step(hm_tool *tool, hm_reports *reports, uint32_t clock, const uint8_t *name, uint64_t name_length,
+                        const double *times, uint64_t times_count);
 
 /*
  * How many bytes of a text, from its first, are the name that an input with it has: 1 to 16. 0: refused, since it has
@@ -514,6 +540,24 @@ static inline uint32_t hm_seconds(const hm_time *time)
     return seconds;
 }
 
+/*
+ * Gives the tool the times of the wafers that a carrier still waits for, as the process module knows them: all is as
+ * with PredictedTime, and Tp is the clock plus the total of both times of all wafers, rounded up once to a second.
+ * No wafers: Tp is the clock; their pointer may be NULL then.
+ * 1: more than HM_WAFERS; none of them is read. 2, 5, 11: as PredictedTime. 12: some time isn't one that hm_wafer may
+ * hold, as NaN and -1.0 aren't, or Tp would be past 2^32 - 1. Times of another kind are brought to whole parts by
+ * ceil(seconds * HM_WAFER_PARTS) / HM_WAFER_PARTS, which is exact below HM_WAFER_SECONDS.
+ */
+static inline uint32_t hm_wafers(hm_tool *tool, hm_reports *reports, uint32_t clock, const uint8_t *name,
+                                 uint64_t name_length, const hm_wafer *wafers, uint64_t count)
+{
+    static const double nothing = 0;
+    const double *const times = count == 0 ? &nothing : &wafers->process;
+    const uint64_t sent = count > HM_WAFERS ? HM_WAFERS + 1 : count; /* twice any count would wrap */
+
+    return hm_wafers_step(tool, reports, clock, name, name_length, times, 2 * sent);
+}
+
 /* The layout that the archive was made for. C99 has no static assertion: an array of -1 bytes stops it there. */
 #if defined(__cplusplus)
 #define HM_HOLDS(name, fact) static_assert(fact, #name)
@@ -560,6 +604,10 @@ HM_AT(hm_prediction, has_predicted, 1);
 HM_AT(hm_prediction, has_estimate, 2);
 HM_AT(hm_prediction, predicted, 3);
 HM_AT(hm_prediction, estimate, 7);
+
+HM_HOLDS(hm_wafer_size, sizeof(hm_wafer) == 16);
+HM_AT(hm_wafer, process, 0);
+HM_AT(hm_wafer, handling, 8);
 
 HM_HOLDS(hm_found_size, sizeof(hm_found) == 16);
 HM_AT(hm_found, position, 0);

@@ -15,12 +15,12 @@ static inline const char *hm_word(const char *const *words, uint32_t count, uint
 
 #define HM_WORD(words, number) hm_word((words), sizeof(words) / sizeof((words)[0]), (number))
 
-/* An answer of hm_step, hm_time_step, hm_setup or hm_secs_step. */
+/* An answer of hm_step, hm_time_step, hm_wafers, hm_setup or hm_secs_step. */
 static inline const char *hm_answer_text(uint32_t answer)
 {
     static const char *const of_tool[] = {
         "accepted",
-        "a port, place, value or name is outside its range, the input number isn't 1 to 34, or the state isn't sound",
+        "a port, place, value or name is outside its range, the input number isn't 1 to 35, or the state isn't sound",
         "the name has no record",
         "the name is taken",
         "the port is reserved or tied",
@@ -31,6 +31,7 @@ static inline const char *hm_answer_text(uint32_t answer)
         "the queue for CarrierOut is full",
         "CarrierOut is queued already",
         "the clock is earlier than the last accepted",
+        "a time of a wafer is out of range, or the predicted time is past the clock's range",
     };
     static const char *const of_message[] = {
         "the message is cut short",
@@ -66,6 +67,7 @@ static inline const char *hm_input_text(uint32_t number)
         "CancelReservationAtPort", "LoadStart", "LoadDone", "LoadFail", "IdRead", "IdReadFailed", "MoveIn", "Open",
         "SlotMap", "AccessStart", "AccessEnd", "Close", "UnloadStart", "UnloadDone", "UnloadFail", "OutStart",
         "OutDone", "CancelCarrierOut", "CancelAllCarrierOut", "Clock", "PredictedTime", "Estimate", "NoPrediction",
+        "Wafers",
     };
     return HM_WORD(names, number - 1);
 }
