@@ -22,7 +22,7 @@ const OF_MESSAGES: [u32; 4] = [1, 3, 5, 6];
 /// ```
 #[derive(Clone, Copy, Debug, PartialEq, Eq)]
 pub struct Event {
-    /// The input's number, 1 to 34.
+    /// The input's number, 1 to 35.
     pub input: u32,
     /// The report's model.
     pub model: Model,

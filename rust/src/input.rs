@@ -2,10 +2,11 @@
 use crate::map::ExpectedMap;
 use crate::name::write_text;
 use crate::row::{Argument, Row, ROWS};
+use crate::wafer::Wafer;
 use core::fmt;
 
-/// One input: document 01's 26 rows and four each of the requests P5 and P7, with their arguments in the documents'
-/// order. Rows 1 and 3 have two cases each, without an expected map and with one.
+/// One input: document 01's 26 rows, four each of the requests P5 and P7 and one of P8, with their arguments in the
+/// documents' order. Rows 1 and 3 have two cases each, without an expected map and with one.
 ///
 /// A port, place or value is any 32-bit number, a name and codes are any bytes of any length:
 /// what is outside its range is answered with [`Refusal::OutOfRange`](crate::Refusal::OutOfRange), not cut.
@@ -84,7 +85,7 @@ pub enum Input<'a> {
     CancelCarrierOut { name: &'a [u8] },
     /// 30: drops all requests that aren't started; accepted even with none.
     CancelAllCarrierOut,
-    /// 31: the time, in seconds of one clock that never goes back; this and the next three judge every
+    /// 31: the time, in seconds of one clock that never goes back; this and the next four judge every
     /// [prediction](crate::Tool::predictions) by it.
     Clock { clock: u32 },
     /// 32: when a carrier that is WAITING FOR PREDICTION will be ready to unload. Once for a carrier.
@@ -94,12 +95,15 @@ pub enum Input<'a> {
     Estimate { clock: u32, name: &'a [u8], te: u32 },
     /// 34: no time can be predicted for a carrier that is WAITING FOR PREDICTION.
     NoPrediction { clock: u32, name: &'a [u8] },
+    /// 35: the same as [`PredictedTime`](Input::PredictedTime) from the times of up to 25 wafers: the predicted time is
+    /// the clock plus the total of both times of all, rounded up once to a second; with no wafers it is the clock.
+    Wafers { clock: u32, name: &'a [u8], wafers: &'a [Wafer] },
 }
 
 /// An input as the machine takes it. A row looks only at the parts that it names.
 #[derive(Clone, Copy, Debug, Default, PartialEq, Eq, Hash)]
 pub struct Parts<'a> {
-    /// The row: 1 to 34.
+    /// The row: 1 to 35.
     pub number: u32,
     /// The port.
     pub port: u32,
@@ -113,6 +117,8 @@ pub struct Parts<'a> {
     pub clock: u32,
     /// The predicted or estimated time, in seconds of the clock.
     pub time: u32,
+    /// The wafers that a carrier waits for.
+    pub wafers: &'a [Wafer],
 }
 
 impl<'a> Parts<'a> {
@@ -142,6 +148,10 @@ impl<'a> Parts<'a> {
 
     fn time(self, time: u32) -> Parts<'a> {
         Parts { time, ..self }
+    }
+
+    fn wafers(self, wafers: &'a [Wafer]) -> Parts<'a> {
+        Parts { wafers, ..self }
     }
 }
 
@@ -194,10 +204,11 @@ impl<'a> Input<'a> {
             Input::PredictedTime { clock, name, tp } => row(32).clock(clock).name(name).time(tp),
             Input::Estimate { clock, name, te } => row(33).clock(clock).name(name).time(te),
             Input::NoPrediction { clock, name } => row(34).clock(clock).name(name),
+            Input::Wafers { clock, name, wafers } => row(35).clock(clock).name(name).wafers(wafers),
         }
     }
 
-    /// The input of its parts; none if the number isn't 1 to 34, or if rows 1 and 3 carry codes that are no expected
+    /// The input of its parts; none if the number isn't 1 to 35, or if rows 1 and 3 carry codes that are no expected
     /// map. Parts that the row doesn't name are left out.
     ///
     /// ```
@@ -205,7 +216,7 @@ impl<'a> Input<'a> {
     ///
     /// let parts = Parts { number: 13, port: 1, ..Parts::default() };
     /// assert_eq!(Input::from_parts(&parts), Some(Input::LoadStart { port: 1 }));
-    /// assert_eq!(Input::from_parts(&Parts { number: 35, ..parts }), None);
+    /// assert_eq!(Input::from_parts(&Parts { number: 36, ..parts }), None);
     /// assert_eq!(Input::from_parts(&Parts { number: 1, codes: &[5; 25], ..parts }), None);
     /// ```
     pub fn from_parts(parts: &Parts<'a>) -> Option<Input<'a>> {
@@ -249,17 +260,18 @@ impl<'a> Input<'a> {
 
     /// One of the inputs that bring the clock.
     fn with_clock(parts: &Parts<'a>) -> Option<Input<'a>> {
-        let Parts { number, name, clock, time, .. } = *parts;
+        let Parts { number, name, clock, time, wafers, .. } = *parts;
         match number {
             31 => Some(Input::Clock { clock }),
             32 => Some(Input::PredictedTime { clock, name, tp: time }),
             33 => Some(Input::Estimate { clock, name, te: time }),
             34 => Some(Input::NoPrediction { clock, name }),
+            35 => Some(Input::Wafers { clock, name, wafers }),
             _ => None,
         }
     }
 
-    /// The documents' number, 1 to 34.
+    /// The documents' number, 1 to 35.
     pub fn number(&self) -> u32 {
         self.parts().number
     }
@@ -302,7 +314,7 @@ impl fmt::Display for Input<'_> {
 ///
 /// let parts = Parts { number: 1, port: 1, name: b"AB", codes: &[5, 5], ..Parts::default() };
 /// assert_eq!(parts.to_string(), "Bind(1, AB, 2 codes)");
-/// assert_eq!(Parts { number: 35, ..parts }.to_string(), "35");
+/// assert_eq!(Parts { number: 36, ..parts }.to_string(), "36");
 /// ```
 impl fmt::Display for Parts<'_> {
     fn fmt(&self, f: &mut fmt::Formatter<'_>) -> fmt::Result {
@@ -324,9 +336,18 @@ impl fmt::Display for Parts<'_> {
                 }
                 Argument::Clock => write!(f, "{}", self.clock)?,
                 Argument::Tp | Argument::Te => write!(f, "{}", self.time)?,
+                Argument::Wafers => write_wafers(self.wafers.len(), f)?,
             }
         }
         f.write_str(")")
+    }
+}
+
+fn write_wafers(count: usize, f: &mut fmt::Formatter<'_>) -> fmt::Result {
+    match count {
+        0 => f.write_str("no wafers"),
+        1 => f.write_str("1 wafer"),
+        _ => write!(f, "{count} wafers"),
     }
 }
 
@@ -338,12 +359,14 @@ mod tests {
     const NAME: &[u8] = b"AB";
     const CLOCK: u32 = 18;
     const TIME: u32 = u32::MAX;
+    const WAFERS: &[Wafer] = &[Wafer { process: 90.5, handling: 12.0 }; 2];
 
-    /// An input, its number, and its port, value, name and codes; those of P7 have the clock and time above.
+    /// An input, its number, and its port, value, name and codes; those of P7 and P8 have the clock, time and wafers
+    /// above.
     type Case = (Input<'static>, u32, u32, u32, &'static [u8], &'static [u8]);
 
     #[rustfmt::skip]
-    fn every_input() -> [Case; 36] {
+    fn every_input() -> [Case; 37] {
         let (name, codes): (_, &[u8]) = (NAME, &[3; 25]);
         let map = ExpectedMap::new(codes).unwrap();
         [
@@ -383,6 +406,7 @@ mod tests {
             (Input::PredictedTime { clock: CLOCK, name, tp: TIME }, 32, 0, 0, NAME, &[]),
             (Input::Estimate { clock: CLOCK, name, te: TIME }, 33, 0, 0, NAME, &[]),
             (Input::NoPrediction { clock: CLOCK, name }, 34, 0, 0, NAME, &[]),
+            (Input::Wafers { clock: CLOCK, name, wafers: WAFERS }, 35, 0, 0, NAME, &[]),
         ]
     }
 
@@ -391,7 +415,8 @@ mod tests {
         for (input, number, port, value, name, codes) in every_input() {
             let clock = if number > 30 { CLOCK } else { 0 };
             let time = if [32, 33].contains(&number) { TIME } else { 0 };
-            assert_eq!(input.parts(), Parts { number, port, value, name, codes, clock, time });
+            let wafers = if number == 35 { WAFERS } else { &[] };
+            assert_eq!(input.parts(), Parts { number, port, value, name, codes, clock, time, wafers });
             assert_eq!(input.number(), number);
             assert_eq!(Input::from_parts(&input.parts()), Some(input));
         }
@@ -414,7 +439,7 @@ mod tests {
 
     #[test]
     fn odd_numbers_are_no_input() {
-        for number in [0, 35, 255, 256, 257, 286, u32::MAX] {
+        for number in [0, 36, 255, 256, 257, 286, u32::MAX] {
             assert_eq!(Input::from_parts(&Parts { number, ..Parts::default() }), None);
         }
     }
@@ -423,7 +448,7 @@ mod tests {
     #[test]
     fn codes_that_are_no_map_are_no_input() {
         for codes in [&[3; 24][..], &[0; 25], &[4; 25], &[3; 26]] {
-            for number in 1..=34 {
+            for number in 1..=35 {
                 let input = Input::from_parts(&Parts { number, codes, ..Parts::default() });
                 assert_eq!(input.is_none(), matches!(number, 1 | 3), "{number}");
             }
@@ -446,5 +471,9 @@ mod tests {
             (format!("{predicted}"), format!("{}", Input::Clock { clock: 9 })),
             ("PredictedTime(9, AB, 69)".into(), "Clock(9)".into())
         );
+        for (count, text) in [(0, "no wafers"), (1, "1 wafer"), (2, "2 wafers")] {
+            let input = Input::Wafers { clock: 9, name: NAME, wafers: &WAFERS[..count] };
+            assert_eq!(format!("{input}"), format!("Wafers(9, AB, {text})"));
+        }
     }
 }

@@ -2,7 +2,7 @@
 //! load ports, pods and the buffer, one input at a time, no heap.
 //!
 //! The machine itself is an archive, `libhawsermole.a`, proved to give exactly the answer, the state and the
-//! reports that document 01 lays down, with document 02's requests P1, P3 to P7 and P13. This crate wraps it: an
+//! reports that document 01 lays down, with document 02's requests P1, P3 to P8 and P13. This crate wraps it: an
 //! [`Input`] has the documents' name and arguments, a [`Refusal`] is one of their reasons, [`Reports`] gives what
 //! changed and [`Event`] which transitions of E87 that is, an [`ExpectedMap`] lets the tool judge a slot map that the
 //! host knows beforehand, [`Name::in_text`] tells which name a tag reader's text has without the blanks at its end,
@@ -41,7 +41,8 @@
 //! table of records (document 02's request P2).
 //!
 //! No input is too odd: numbers are 32 bits and are not cut, names, codes and messages may be any bytes of any length,
-//! and a [`Tool`] may be made of any bytes. A refusal leaves the tool as it was.
+//! a [`Wafer`] may have any times, NaN too, and a [`Tool`] may be made of any bytes. A refusal leaves the tool as it
+//! was.
 //!
 //! The archive is for one target (x86-64 Linux, unless yours was built for another). It needs `memcpy`, `memset` and
 //! `memcmp` at most, and some stack: `include/hawsermole.h` gives the figure as `HM_STACK_BYTES`.
@@ -66,6 +67,7 @@ mod request;
 mod row;
 pub mod states;
 mod tool;
+mod wafer;
 mod waiting;
 pub mod words;
 
@@ -82,6 +84,7 @@ pub use report::{Model, Report, Reports, Subject, REPORTS};
 pub use request::{Request, REQUESTS};
 pub use row::{Argument, Row, ROWS};
 pub use tool::{Bridged, Carrier, Port, Tool, PORTS, RECORDS, SECS_DEPTH, SECS_ITEMS, SLOTS};
+pub use wafer::{Wafer, WAFERS};
 pub use waiting::{waiting, Waiting};
 
 /// The manual's Rust is tested with this crate's own examples.

@@ -1,7 +1,8 @@
 //! The archive's functions behind safe ones, which call no archive of another version.
 use crate::input::Parts;
 use crate::raw::{self, CARRIER_BYTES, REPORTS_BYTES, TOOL_01_BYTES, TOOL_BYTES};
-use crate::row::brings_clock;
+use crate::row::Taker;
+use crate::wafer::Wafer;
 
 /// Sets a tool up; a refused set-up leaves all zeros.
 pub fn setup(tool: &mut [u8; TOOL_BYTES], ports: u32, places: u32, setting: u32, timeout: u32) -> u32 {
@@ -20,12 +21,13 @@ pub fn sound(tool: &[u8; TOOL_BYTES]) -> bool {
 /// One input: the answer; tool and reports are written.
 pub fn step(tool: &mut [u8; TOOL_BYTES], reports: &mut [u8; REPORTS_BYTES], parts: &Parts<'_>) -> u32 {
     check_sizes();
-    let Parts { number, port, value, name, codes, clock, time } = *parts;
+    let Parts { number, port, value, name, codes, clock, time, wafers } = *parts;
     // SAFETY: the sizes agree.
     unsafe {
-        match brings_clock(number) {
-            true => raw::time_step(tool, reports, number, clock, name, time),
-            false => raw::step(tool, reports, number, port, value, name, codes),
+        match Taker::of(number) {
+            Taker::Step => raw::step(tool, reports, number, port, value, name, codes),
+            Taker::TimeStep => raw::time_step(tool, reports, number, clock, name, time),
+            Taker::WafersStep => raw::wafers_step(tool, reports, clock, name, Wafer::times(wafers)),
         }
     }
 }

@@ -15,7 +15,7 @@
 //! ```
 
 /// The version of this crate as a number, 0x00MMmmpp; `HM_VERSION` of the header.
-pub const VERSION: u32 = 0x000A00;
+pub const VERSION: u32 = 0x000B00;
 /// How many bytes a tool has.
 pub const TOOL_BYTES: usize = 3782;
 /// How many bytes document 01's tool has, with which a tool begins.
@@ -94,6 +94,16 @@ unsafe extern "C" {
         name_length: u64,
         time: u32,
     ) -> u32;
+    /// Input 35, which brings the clock and the times of wafers; [`wafers_step`] is the same with slices.
+    pub fn hm_wafers_step(
+        tool: &mut [u8; TOOL_BYTES],
+        reports: &mut [u8; REPORTS_BYTES],
+        clock: u32,
+        name: *const u8,
+        name_length: u64,
+        times: *const f64,
+        times_count: u64,
+    ) -> u32;
 }
 
 /// Whether the archive has the version of this crate, and so its sizes, which are compared all the same. One of another
@@ -163,6 +173,24 @@ pub unsafe fn time_step(
 ) -> u32 {
     // SAFETY: as for `step`.
     unsafe { hm_time_step(tool, reports, number, clock, name.as_ptr(), name.len() as u64, time) }
+}
+
+/// Input 35, which brings the clock and the times of wafers, process, handling and so on: the answer; tool and reports
+/// are written in place.
+///
+/// # Safety
+/// [`sizes_agree`].
+#[inline(always)]
+pub unsafe fn wafers_step(
+    tool: &mut [u8; TOOL_BYTES],
+    reports: &mut [u8; REPORTS_BYTES],
+    clock: u32,
+    name: &[u8],
+    times: &[f64],
+) -> u32 {
+    let (name_length, times_count) = (name.len() as u64, times.len() as u64);
+    // SAFETY: as for `step`.
+    unsafe { hm_wafers_step(tool, reports, clock, name.as_ptr(), name_length, times.as_ptr(), times_count) }
 }
 
 /// A message, read and then stepped: the answer; tool, reports and the count of items are written in place.

@@ -1,8 +1,8 @@
 //! Why an input is refused.
 use core::fmt;
 
-/// Why an input was refused: document 01's eight reasons, the two of request P5 and the one of request P7, of which the
-/// lowest that applies is given; or why a message was, by request P3: the first that its reading meets, and the lowest
+/// Why an input was refused: document 01's eight reasons, the two of request P5 and one each of requests P7 and P8, of
+/// which the lowest that applies is given; or why a message was, by request P3: the first that its reading meets, and the lowest
 /// at one item; or that a reply had no room, by request P13.
 ///
 /// ```
@@ -17,9 +17,9 @@ use core::fmt;
 #[derive(Clone, Copy, Debug, PartialEq, Eq, PartialOrd, Ord, Hash)]
 #[repr(u8)]
 pub enum Refusal {
-    /// 1: a port, place, value or name is outside its range, the input number isn't 1 to 34, or the state isn't sound;
-    /// also codes that are no slot map, or no [`ExpectedMap`](crate::ExpectedMap) in rows 1 and 3, and a text in which
-    /// there is no [`Name`](crate::Name::in_text).
+    /// 1: a port, place, value or name is outside its range, the input number isn't 1 to 35, or the state isn't sound;
+    /// also codes that are no slot map, or no [`ExpectedMap`](crate::ExpectedMap) in rows 1 and 3, a text in which
+    /// there is no [`Name`](crate::Name::in_text), and more than [`WAFERS`](crate::WAFERS).
     OutOfRange = 1,
     /// 2: the name has no record, where the row says so.
     NoRecord = 2,
@@ -42,6 +42,9 @@ pub enum Refusal {
     QueuedAlready = 10,
     /// 11: the clock is earlier than the last that was accepted.
     ClockEarlier = 11,
+    /// 12: a time of a [`Wafer`](crate::Wafer) isn't one that it may be, or the predicted time is past the last second
+    /// that a clock has, 4,294,967,295.
+    TimeOutOfRange = 12,
     /// 14: the reply is longer than the room lent for it. Nothing was written, and the tool got no input.
     RoomTooSmall = 14,
     /// 20: the message ends inside an item, or before one that a list counts.
@@ -61,8 +64,8 @@ pub enum Refusal {
 }
 
 impl Refusal {
-    /// All nineteen, by number.
-    pub const ALL: [Refusal; 19] = [
+    /// All twenty, by number.
+    pub const ALL: [Refusal; 20] = [
         Refusal::OutOfRange,
         Refusal::NoRecord,
         Refusal::NameTaken,
@@ -74,6 +77,7 @@ impl Refusal {
         Refusal::QueueFull,
         Refusal::QueuedAlready,
         Refusal::ClockEarlier,
+        Refusal::TimeOutOfRange,
         Refusal::RoomTooSmall,
         Refusal::CutShort,
         Refusal::UnknownCode,
@@ -84,7 +88,7 @@ impl Refusal {
         Refusal::ShapeOrAction,
     ];
 
-    /// The documents' number: 1 to 11, 14 for a reply, and 20 to 26 for a message.
+    /// The documents' number: 1 to 12, 14 for a reply, and 20 to 26 for a message.
     pub const fn number(self) -> u8 {
         self as u8
     }
@@ -107,7 +111,7 @@ impl Refusal {
     ///
     /// assert_eq!(Refusal::from_number(7), Some(Refusal::NotVerified));
     /// assert_eq!(Refusal::from_number(0), None);
-    /// assert_eq!(Refusal::from_number(12), None);
+    /// assert_eq!(Refusal::from_number(13), None);
     /// assert_eq!(Refusal::from_number(26), Some(Refusal::ShapeOrAction));
     /// ```
     pub fn from_number(number: u32) -> Option<Refusal> {
@@ -118,7 +122,7 @@ impl Refusal {
     pub const fn text(self) -> &'static str {
         match self {
             Refusal::OutOfRange => {
-                "a port, place, value or name is outside its range, the input number isn't 1 to 34, \
+                "a port, place, value or name is outside its range, the input number isn't 1 to 35, \
                  or the state isn't sound"
             }
             Refusal::NoRecord => "the name has no record",
@@ -131,6 +135,9 @@ impl Refusal {
             Refusal::QueueFull => "the queue for CarrierOut is full",
             Refusal::QueuedAlready => "CarrierOut is queued already",
             Refusal::ClockEarlier => "the clock is earlier than the last accepted",
+            Refusal::TimeOutOfRange => {
+                "a time of a wafer is out of range, or the predicted time is past the clock's range"
+            }
             Refusal::RoomTooSmall => "the room lent is too small",
             Refusal::CutShort => "the message is cut short",
             Refusal::UnknownCode => "unknown format code",
@@ -166,12 +173,12 @@ mod tests {
 
     #[test]
     fn numbers_go_both_ways() {
-        for (number, refusal) in (1..=11).chain([14]).chain(20..=26).zip(Refusal::ALL) {
+        for (number, refusal) in (1..=12).chain([14]).chain(20..=26).zip(Refusal::ALL) {
             assert_eq!(refusal.number(), number);
             assert_eq!(refusal.is_of_message(), number > 14);
             assert_eq!(Refusal::from_number(u32::from(refusal.number())), Some(refusal));
         }
-        for odd in [0, 12, 13, 15, 19, 27, 255, 256, 257, 276, u32::MAX] {
+        for odd in [0, 13, 15, 19, 27, 255, 256, 257, 276, u32::MAX] {
             assert_eq!(Refusal::from_number(odd), None);
         }
     }
@@ -182,6 +189,9 @@ mod tests {
         assert_eq!(Refusal::ExpectedFull.to_string(), "16 carriers are expected already");
         assert_eq!(Refusal::QueueFull.to_string(), "the queue for CarrierOut is full");
         assert_eq!(Refusal::ClockEarlier.to_string(), "the clock is earlier than the last accepted");
+        assert!(Refusal::TimeOutOfRange
+            .to_string()
+            .ends_with("the predicted time is past the clock's range"));
         assert_eq!(Refusal::BytesLeftOver.to_string(), "bytes left over");
         assert_eq!(Refusal::RoomTooSmall.to_string(), "the room lent is too small");
         assert!(Refusal::OutOfRange.to_string().ends_with("or the state isn't sound"));

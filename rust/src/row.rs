@@ -29,6 +29,8 @@ pub enum Argument {
     Tp,
     /// The estimated time of ready to unload, in seconds of the clock: document 000's Te.
     Te,
+    /// The wafers that the carrier waits for, none to 25. They stand last.
+    Wafers,
 }
 
 impl Argument {
@@ -46,6 +48,7 @@ impl Argument {
             Argument::Clock => "clock",
             Argument::Tp => "tp",
             Argument::Te => "te",
+            Argument::Wafers => "wafers",
         }
     }
 }
@@ -53,7 +56,7 @@ impl Argument {
 /// A row of document 01, or of a request: one kind of input.
 #[derive(Clone, Copy, Debug, PartialEq, Eq)]
 pub struct Row {
-    /// 1 to 34.
+    /// 1 to 35.
     pub number: u32,
     /// The documents' name.
     pub name: &'static str,
@@ -66,14 +69,14 @@ pub struct Row {
 }
 
 impl Row {
-    /// The row of a number; none outside 1 to 34.
+    /// The row of a number; none outside 1 to 35.
     ///
     /// ```
     /// use hawsermole::Row;
     ///
     /// assert_eq!(Row::numbered(20).unwrap().name, "SlotMap");
     /// assert_eq!(Row::numbered(0), None);
-    /// assert_eq!(Row::numbered(35), None);
+    /// assert_eq!(Row::numbered(36), None);
     /// ```
     pub fn numbered(number: u32) -> Option<&'static Row> {
         ROWS.iter().find(|row| row.number == number)
@@ -94,13 +97,30 @@ impl Row {
     }
 }
 
-/// Whether this is an input that brings the clock: 31 to 34.
-pub(crate) const fn brings_clock(number: u32) -> bool {
-    matches!(number, 31..=34)
+/// The archive's function that takes an input.
+#[derive(Debug, PartialEq)]
+pub(crate) enum Taker {
+    /// `hm_step`: all but those that bring the clock, and numbers that no row has.
+    Step,
+    /// `hm_time_step`.
+    TimeStep,
+    /// `hm_wafers_step`.
+    WafersStep,
+}
+
+impl Taker {
+    /// The function for an input's number.
+    pub(crate) const fn of(number: u32) -> Taker {
+        match number {
+            31..=34 => Taker::TimeStep,
+            35 => Taker::WafersStep,
+            _ => Taker::Step,
+        }
+    }
 }
 
 use Argument::{
-    Access, Clock, Codes, End, MapOrNone, Name, NameOrNone, Place, Port, PortOrNone, Service, Te, Tp,
+    Access, Clock, Codes, End, MapOrNone, Name, NameOrNone, Place, Port, PortOrNone, Service, Te, Tp, Wafers,
 };
 
 const fn row(number: u32, name: &'static str, arguments: &'static [Argument], text: &'static str) -> Row {
@@ -113,8 +133,8 @@ impl Row {
     }
 }
 
-/// The 34 rows, by number.
-pub const ROWS: [Row; 34] = [
+/// The 35 rows, by number.
+pub const ROWS: [Row; 35] = [
     row(
         1,
         "Bind",
@@ -180,16 +200,27 @@ pub const ROWS: [Row; 34] = [
         .needs("a tool without a buffer, and a predicted time of the carrier"),
     row(34, "NoPrediction", &[Clock, Name], "no ready to unload time can be predicted for the carrier")
         .needs("a tool without a buffer, and the carrier's prediction WAITING FOR PREDICTION"),
+    row(35, "Wafers", &[Clock, Name, Wafers], "predict the same by the times of the carrier's wafers").needs(
+        "a tool without a buffer, and the carrier's prediction WAITING FOR PREDICTION and without a predicted time",
+    ),
 ];
 
 #[cfg(test)]
 mod tests {
     use super::*;
-    use crate::{Input, Parts};
+    use crate::{Input, Parts, Wafer};
 
     /// Every part given: what an input keeps of them is what its row names.
-    const FULL: Parts<'static> =
-        Parts { number: 0, port: 3, value: 9, name: b"N", codes: &[3; 25], clock: 7, time: 8 };
+    const FULL: Parts<'static> = Parts {
+        number: 0,
+        port: 3,
+        value: 9,
+        name: b"N",
+        codes: &[3; 25],
+        clock: 7,
+        time: 8,
+        wafers: &[Wafer { process: 1.5, handling: 2.0 }],
+    };
 
     fn named_parts(row: &Row) -> Parts<'static> {
         let mut parts = Parts { number: row.number, ..Parts::default() };
@@ -200,6 +231,7 @@ mod tests {
                 "codes" | "map" => parts.codes = FULL.codes,
                 "clock" => parts.clock = FULL.clock,
                 "tp" | "te" => parts.time = FULL.time,
+                "wafers" => parts.wafers = FULL.wafers,
                 _ => parts.value = FULL.value,
             }
         }
@@ -235,8 +267,13 @@ mod tests {
     #[test]
     fn inputs_that_bring_the_clock_name_it_first() {
         for row in &ROWS {
-            assert_eq!(brings_clock(row.number), row.arguments.first() == Some(&Clock), "{}", row.name);
+            let taker = match row.arguments {
+                [Clock, .., Wafers] => Taker::WafersStep,
+                [Clock, ..] => Taker::TimeStep,
+                _ => Taker::Step,
+            };
+            assert_eq!(Taker::of(row.number), taker, "{}", row.name);
         }
-        assert!(!brings_clock(0) && !brings_clock(35) && !brings_clock(256 + 31));
+        assert!([0, 36, 256 + 31, 256 + 35].map(Taker::of).iter().all(|taker| *taker == Taker::Step));
     }
 }

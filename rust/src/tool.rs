@@ -143,7 +143,7 @@ impl Tool {
     /// let ignored = Parts { value: 77, name: b"ignored", codes: b"ignored", clock: 77, time: 77, ..Parts::default() };
     /// let load = Parts { number: 13, port: 1, ..ignored };
     /// assert_eq!(tool.step_parts(&load).unwrap().len(), 1);
-    /// assert_eq!(tool.step_parts(&Parts { number: 35, ..load }), Err(Refusal::OutOfRange));
+    /// assert_eq!(tool.step_parts(&Parts { number: 36, ..load }), Err(Refusal::OutOfRange));
     /// assert_eq!(tool.step_parts(&Parts { port: 257, ..load }), Err(Refusal::OutOfRange));
     ///
     /// // Bind names the codes: none, or an expected map.

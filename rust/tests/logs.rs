@@ -224,14 +224,14 @@ fn no_queue_reaches_a_log() {
 #[test]
 fn no_prediction_reaches_a_log() {
     let mut log = log(1, 0, &[Input::CarrierNotification { name: b"A" }]);
-    let numbers = [31, 32, 33, 34];
+    let numbers = [31, 32, 33, 34, 35];
     for number in numbers {
         log.bytes.extend([number, 0, 0, 1, b'A', Refusal::OutOfRange.number(), 0]);
     }
-    assert_eq!(judged(&log.bytes), Verdict::Agrees { entries: 5 });
+    assert_eq!(judged(&log.bytes), Verdict::Agrees { entries: 6 });
     let at = log.bytes.len();
     log.bytes.extend(*b"\x04\0\0\x01A\0\x01\x08\x01\x02\0");
-    let Verdict::Disagrees { entry: 5, at: begins, given } = judged(&log.bytes) else { panic!() };
+    let Verdict::Disagrees { entry: 6, at: begins, given } = judged(&log.bytes) else { panic!() };
     assert_eq!((begins, given.unwrap().to_string()), (at, "5 A 1>0; 6 A 1>0; 7 A 1>0".into()));
 }
 

@@ -1,5 +1,5 @@
 //! Names padded with blanks (request P4), through the typed interface.
-use hawsermole::{ExpectedMap, Input, Name, Parts, Refusal, Tool, ROWS};
+use hawsermole::{ExpectedMap, Input, Name, Parts, Refusal, Tool, Wafer, ROWS};
 
 /// A run that reaches rows 1 to 8, 16, 19 to 23 and 29 in a tool with a buffer, each accepted; `name` is given with
 /// every one of them.
@@ -35,8 +35,8 @@ fn run(name: &[u8]) -> Vec<Input<'_>> {
     ]
 }
 
-/// A run of a tool without a buffer, that reaches rows 32 to 34 in the same way.
-fn predicted_run(name: &[u8]) -> Vec<Input<'_>> {
+/// A run of a tool without a buffer, that reaches rows 33, 34 and the one that predicts, 32 or 35, in the same way.
+fn predicted_run<'a>(name: &'a [u8], predicts: Input<'a>) -> Vec<Input<'a>> {
     let codes = &[3; 25];
     vec![
         Input::LoadStart { port: 1 },
@@ -47,16 +47,22 @@ fn predicted_run(name: &[u8]) -> Vec<Input<'_>> {
         Input::SlotMap { name, codes },
         Input::ProceedWithCarrier { name, port: 0 },
         Input::AccessStart { name },
-        Input::PredictedTime { clock: 1, name, tp: 99 },
+        predicts,
         Input::Estimate { clock: 2, name, te: 99 },
         Input::NoPrediction { clock: 3, name },
     ]
 }
 
-/// Both runs, each with the tool that it begins with.
-fn runs(name: &[u8]) -> [(Tool, Vec<Input<'_>>); 2] {
-    let predicting = Tool::setup_with_times(1, 0, 60, 120).unwrap();
-    [(Tool::setup(1, 1).unwrap(), run(name)), (predicting, predicted_run(name))]
+/// All runs, each with the tool that it begins with.
+fn runs(name: &[u8]) -> [(Tool, Vec<Input<'_>>); 3] {
+    let predicting = || Tool::setup_with_times(1, 0, 60, 120).unwrap();
+    let time = Input::PredictedTime { clock: 1, name, tp: 99 };
+    let wafers = Input::Wafers { clock: 1, name, wafers: &[Wafer { process: 98.0, handling: 0.0 }] };
+    [
+        (Tool::setup(1, 1).unwrap(), run(name)),
+        (predicting(), predicted_run(name, time)),
+        (predicting(), predicted_run(name, wafers)),
+    ]
 }
 
 /// Each state of the runs, with the input that comes next.

@@ -1,6 +1,6 @@
 //! The prediction of ready to unload (request P7), through the typed interface.
 use hawsermole::states::{PredictionState, State};
-use hawsermole::{Input, Model, Parts, Refusal, Subject, Tool, REPORTS};
+use hawsermole::{Input, Model, Parts, Refusal, Subject, Tool, Wafer, REPORTS};
 
 const A: &[u8] = b"A";
 
@@ -167,7 +167,8 @@ fn times_of_any_size() {
 #[test]
 fn parts_names_and_bytes() {
     let mut tool = accessed();
-    let odd = Parts { number: 31, port: 99, value: 99, name: b" odd", codes: b"odd", clock: 9, time: 99 };
+    let parts = Parts { number: 31, port: 99, value: 99, name: b" odd", codes: b"odd", ..Parts::default() };
+    let odd = Parts { clock: 9, time: 99, wafers: &[Wafer { process: -1.0, handling: -1.0 }], ..parts };
     assert!(tool.step_parts(&odd).is_ok());
     assert_eq!(tool.step_parts(&Parts { number: 32, ..odd }), Err(Refusal::OutOfRange));
     let padded = Parts { number: 32, name: b"A  ", ..odd };

@@ -1,6 +1,6 @@
 //! The queue for CarrierOut (request P5), through the typed interface.
 use hawsermole::states::RequestState;
-use hawsermole::{Input, Parts, Refusal, Tool, REQUESTS};
+use hawsermole::{Input, Parts, Refusal, Tool, Wafer, REQUESTS};
 
 /// A tool of two ports with these carriers in the buffer, each name one byte, in the places from 1.
 fn stored(names: &[u8]) -> Tool {
@@ -112,7 +112,8 @@ fn the_queue_is_in_the_bytes() {
 #[test]
 fn other_parts_are_ignored() {
     let mut tool = stored(b"A");
-    let odd = Parts { number: 30, port: 99, value: 99, name: b" odd", codes: b"odd", clock: 99, time: 99 };
+    let parts = Parts { number: 30, port: 99, value: 99, name: b" odd", codes: b"odd", ..Parts::default() };
+    let odd = Parts { clock: 99, time: 99, wafers: &[Wafer { process: -1.0, handling: -1.0 }], ..parts };
     assert!(tool.step_parts(&odd).is_ok());
     assert_eq!(tool.step_parts(&Parts { number: 27, ..odd }), Err(Refusal::OutOfRange));
     assert_eq!(tool.step_parts(&Parts { number: 27, port: 1, ..odd }), Err(Refusal::Conditions));

@@ -18,7 +18,7 @@ fn lines() -> Vec<String> {
     let mut lines: Vec<String> =
         (0..=27).map(|number| format!("answer {number}: {}", answer(number))).collect();
     lines.extend((0..=30).map(|number| format!("verdict {number}: {}", verdict(number))));
-    lines.extend((0..=35).map(|number| format!("input {number}: {}", input(number))));
+    lines.extend((0..=36).map(|number| format!("input {number}: {}", input(number))));
     lines.extend((0..=9).map(|number| format!("model {number}: {}", model(number))));
     for model in Model::ALL {
         lines

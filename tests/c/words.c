@@ -20,7 +20,7 @@ static void print_all(void)
 
     print("answer", hm_answer_text, 0, 27);
     print("verdict", hm_verdict_text, 0, 30);
-    print("input", hm_input_text, 0, 35);
+    print("input", hm_input_text, 0, 36);
     print("model", hm_model_text, 0, 9);
     for (model = HM_MODEL_TRANSFER; model <= HM_MODEL_PREDICTION; model++) {
         for (state = 0; state <= 7; state++) {
