@@ -1,6 +1,6 @@
 //! A step of either program, as one kind of function.
 
-use hawsermole::raw::{self, REPORTS_BYTES, TOOL_BYTES};
+use hawsermole::raw;
 use independent::requests::predict::is_timed;
 use independent::requests::secs::{secs_step, SecsAnswer};
 use independent::requests::wafers::WAFERS;
@@ -94,19 +94,6 @@ pub fn caller_of_hm_time_step(
     std::hint::black_box(answer)
 }
 
-// `include/hawsermole.h` says what it gives.
-unsafe extern "C" {
-    fn hm_wafers_step(
-        tool: &mut [u8; TOOL_BYTES],
-        reports: &mut [u8; REPORTS_BYTES],
-        clock: u32,
-        name: *const u8,
-        name_length: u64,
-        times: *const f64,
-        times_count: u64,
-    ) -> u32;
-}
-
 /// An input that brings the clock and wafers, known in the same way.
 #[no_mangle]
 #[inline(never)]
@@ -118,10 +105,8 @@ pub fn caller_of_hm_wafers_step(
     reports: &mut Reports,
 ) -> u32 {
     let (tool, reports) = (tool.bytes_mut().try_into().unwrap(), reports.bytes_mut().try_into().unwrap());
-    let (length, count) = (name.len() as u64, times.len() as u64);
-    // SAFETY: `main` has seen that the sizes agree. Name and times are lent with their lengths.
-    let answer =
-        unsafe { hm_wafers_step(tool, reports, clock, name.as_ptr(), length, times.as_ptr(), count) };
+    // SAFETY: `main` has seen that the sizes agree.
+    let answer = unsafe { raw::wafers_step(tool, reports, clock, name, times) };
     std::hint::black_box(answer)
 }
 

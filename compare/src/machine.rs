@@ -7,8 +7,6 @@ use independent::requests::wafers::WAFERS;
 use independent::requests::{self, secs, Tool};
 use independent::{Plain, Reports};
 
-use crate::library;
-
 /// The numbers of a set-up.
 #[derive(Clone, Copy, Debug, Default, PartialEq, Eq)]
 pub struct SetUp {
@@ -97,7 +95,7 @@ impl Machine for Proved {
     fn step(&self, tool: &mut Tool, i: &Input, reports: &mut Reports) -> u32 {
         if i.number == WAFERS {
             // SAFETY: the sizes agree.
-            return unsafe { library::wafers_step(tool, i, reports) };
+            return unsafe { raw::wafers_step(lent(tool), lent(reports), i.clock, &i.name, &i.times()) };
         }
         self.by(if is_timed(i.number) { Way::TimeStep } else { Way::Step }, tool, i, reports)
     }

@@ -7,7 +7,6 @@
 
 mod answer;
 mod laws;
-mod library;
 mod machine;
 mod pairs;
 mod parts;
