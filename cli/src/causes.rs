@@ -60,6 +60,8 @@ causes! {
         "send 25 codes of 0 to 5, slot 1 first"
     ExpectedMap OutOfRange "the codes are no expected map"
         "send 25 codes of 1 and 3, slot 1 first; or none, and the host judges the map"
+    TooManyWafers OutOfRange "there are too many wafers"
+        "send at most 25, those of one carrier"
 
     NoRecord NoRecord "the name has no record"
         "host: check the name. Equipment: your picture is old, read the carriers from the tool"
@@ -213,6 +215,11 @@ causes! {
 
     ClockEarlier ClockEarlier "the clock is earlier than the last accepted"
         "send the time as it is; if your clock was set back, go on from the last one accepted until it is past that"
+
+    WaferTime TimeOutOfRange "a time of a wafer is out of range"
+        "send whole 1/1024ths of a second, from 0 to less than 1,048,576: times 1024, rounded up, by 1024"
+    TpTooLate TimeOutOfRange "the predicted time is past the clock's range"
+        "check clock and times: the last second of a clock is 4,294,967,295; NoPrediction if it is true"
 }
 
 #[cfg(test)]

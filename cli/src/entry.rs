@@ -106,8 +106,8 @@ pub fn misfit(sent: &Sent) -> Option<String> {
     if let Some((what, number)) = numbers.into_iter().find(|(_, number)| *number > 255) {
         return Some(format!("{what} {number}: a log has one byte for it"));
     }
-    if (sent.clock, sent.time) != (0, 0) {
-        return Some("clock or time: a log has none, since document 01 has no predictions".into());
+    if (sent.clock, sent.time) != (0, 0) || !sent.wafers.is_empty() {
+        return Some("clock, time or wafers: a log has none, since document 01 has no predictions".into());
     }
     let (name, codes) = (sent.name.len(), sent.codes.len());
     if name > 255 {
@@ -148,7 +148,7 @@ fn write_text(log: &mut Vec<u8>, text: &[u8]) {
 mod tests {
     use super::*;
     use crate::print::Answer;
-    use hawsermole::{Input, Tool};
+    use hawsermole::{Input, Tool, Wafer};
 
     fn bound() -> (Vec<u8>, Answer) {
         let given = Tool::setup(1, 0).unwrap().step(&Input::Bind { port: 1, name: b"AB" });
@@ -201,9 +201,10 @@ mod tests {
         let long = misfit(&sent(19, 0, &[b'A'; 256], b"")).unwrap();
         assert_eq!(long, "a name of 256 bytes: a log holds at most 255");
         assert_eq!(misfit(&sent(20, 0, b"A", &[3; 24])).unwrap(), "24 codes: in a log SlotMap has 25");
-        for (clock, time) in [(1, 0), (0, 1)] {
-            let timed = misfit(&Sent { clock, time, ..sent(31, 0, b"", b"") }).unwrap();
-            assert!(timed.starts_with("clock or time: a log has none"), "{timed}");
+        let wafer = Wafer { process: 0.0, handling: 0.0 };
+        for (clock, time, wafers) in [(1, 0, vec![]), (0, 1, vec![]), (0, 0, vec![wafer])] {
+            let timed = misfit(&Sent { clock, time, wafers, ..sent(31, 0, b"", b"") }).unwrap();
+            assert!(timed.starts_with("clock, time or wafers: a log has none"), "{timed}");
         }
         assert!(misfit(&sent(1, 1, b"A", &[3; 25]))
             .unwrap()

@@ -153,7 +153,7 @@ fn of_report(Report { model, subject, old, new }: Report) -> String {
 mod tests {
     use super::*;
     use crate::print::tests::{accessed, stored, tool};
-    use hawsermole::{ExpectedMap, Input};
+    use hawsermole::{ExpectedMap, Input, Wafer};
 
     fn explained(tool: &mut Tool, input: Input) -> String {
         let before = tool.clone();
@@ -346,10 +346,10 @@ mod tests {
             early.starts_with(&format!("  LoadDone(1): the pod has arrived\n  {conditions}  {because}")),
             "{early}"
         );
-        let odd = lines(&mut tool, 35, b"", &[]);
-        assert_eq!(odd[0], "35: no input has this number");
+        let odd = lines(&mut tool, 36, b"", &[]);
+        assert_eq!(odd[0], "36: no input has this number");
         assert!(odd[1].starts_with("refused, 1: a port, place,"), "{odd:?}");
-        assert_eq!(odd[2], "because no input has this number: 35; inputs are 1 to 34");
+        assert_eq!(odd[2], "because no input has this number: 36; inputs are 1 to 35");
         let none = explained(&mut Tool::none(), Input::LoadDone { port: 1 });
         assert!(none.contains("\n  because there is no tool\n  next: set one up, of 1 to 4 ports"), "{none}");
     }
@@ -395,6 +395,25 @@ mod tests {
         let because = "  refused, 11: the clock is earlier than the last accepted\n  because the clock is earlier \
                        than the last accepted: clock 1039, and the last accepted is 1040\n  next: send the time";
         assert!(early.contains(because), "{early}");
+    }
+
+    #[test]
+    fn wafers_that_are_totalled_and_refused() {
+        let mut tool = accessed(60, 120);
+        let mut sent =
+            |wafers: &[Wafer]| explained(&mut tool, Input::Wafers { clock: 9, name: b"A", wafers });
+        let odd = sent(&[Wafer { process: 0.1, handling: 0.0 }]);
+        let because = "  refused, 12: a time of a wafer is out of range, or the predicted time is past the \
+                       clock's range\n  because a time of a wafer is out of range: process time of wafer 1, \
+                       0.1, lies between 0.099609375 and 0.1005859375\n  next: send whole 1/1024ths";
+        assert!(odd.contains(because), "{odd}");
+        let expected =
+            "  Wafers(9, A, 1 wafer): predict ready to unload by the times of the carrier's wafers\n\
+             \x20 accepted\n\
+             \x20 carrier A: WAITING FOR PREDICTION to PREDICTED\n\
+             \x20 1 wafer takes 30.5 seconds, rounded up 31\n\
+             \x20 carrier A: ready to unload at 40, 31 seconds from now\n";
+        assert_eq!(sent(&[Wafer { process: 30.0, handling: 0.5 }]), expected);
     }
 
     /// A name of any length is sent; of a long one the beginning is told.

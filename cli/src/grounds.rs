@@ -4,7 +4,7 @@ use crate::causes::Cause;
 use crate::numbers::row;
 use crate::soundness;
 use crate::standing::{Grounds, Standing};
-use hawsermole::{Argument, ExpectedMap, Name, Parts, Row, Tool, ROWS, SLOTS};
+use hawsermole::{Argument, ExpectedMap, Name, Parts, Row, Tool, ROWS, SLOTS, WAFERS};
 
 /// A cause that an input meets, and what is the matter in particular.
 #[derive(Debug, PartialEq, Eq)]
@@ -67,7 +67,7 @@ fn out_of_range(tool: &Tool, row: &Row, parts: &Parts) -> Vec<Ground> {
 }
 
 fn of_argument(tool: &Tool, argument: Argument, parts: &Parts) -> Option<Ground> {
-    let Parts { port, value, name, codes, .. } = *parts;
+    let Parts { port, value, name, codes, wafers, .. } = *parts;
     let choice = |words| ground(value > 1, Cause::Value, format!("{value}, and {words}"));
     match argument {
         Argument::Port => of_port(tool, port),
@@ -90,6 +90,7 @@ fn of_argument(tool: &Tool, argument: Argument, parts: &Parts) -> Option<Ground>
         }
         // every number is a time
         Argument::Clock | Argument::Tp | Argument::Te => None,
+        Argument::Wafers => of_wafers(wafers.len()),
     }
 }
 
@@ -115,6 +116,10 @@ fn of_codes(codes: &[u8]) -> Option<Ground> {
     let odd: Option<(u32, &u8)> = odd;
     length
         .or(odd.and_then(|(slot, code)| ground(true, Cause::SlotMap, format!("code {code} at slot {slot}"))))
+}
+
+fn of_wafers(count: usize) -> Option<Ground> {
+    ground(count > WAFERS, Cause::TooManyWafers, format!("{count}, and not more than {WAFERS}"))
 }
 
 /// What a row is refused for besides 1.
@@ -154,6 +159,7 @@ fn of_row(at: &Standing) -> Grounds {
         row::PREDICTED_TIME => at.with_record(|c| at.predicted_time(c)),
         row::ESTIMATE => at.with_record(|c| at.estimate(c)),
         row::NO_PREDICTION => at.with_record(|c| at.no_prediction(c)),
+        row::WAFERS => at.with_record(|c| at.wafers(c)),
         _ => Grounds::new(),
     }
 }

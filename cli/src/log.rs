@@ -207,7 +207,9 @@ pub mod tests {
         assert_eq!(judge(&written, &mut Tool::none()), Verdict::Agrees { entries: 12 });
         assert!(written.ends_with(b"\x17\0\0\x01A\0\x01\x01\x01\x03\x02"), "{written:?}");
         assert!(error("setup 1 0 60").starts_with("line 1: setting time or timeout: a log has none"));
-        assert!(error("setup 1 0\nin 31 0 0 - - 9").starts_with("line 2: clock or time: a log has none"));
+        assert!(
+            error("setup 1 0\nin 31 0 0 - - 9").starts_with("line 2: clock, time or wafers: a log has none")
+        );
         let clock = "line 2: 'Clock' is no input of document 01, which has no predictions: leave it out, \
                      or write in 31 .., which is answered 1";
         assert_eq!(error("setup 1 0\nClock 9"), clock);

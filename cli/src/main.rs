@@ -28,6 +28,7 @@ mod script;
 mod soundness;
 mod standing;
 mod values;
+mod wafers;
 
 use options::Options;
 use run::End;

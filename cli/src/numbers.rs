@@ -67,6 +67,7 @@ pub mod row {
     pub const PREDICTED_TIME: u32 = 32;
     pub const ESTIMATE: u32 = 33;
     pub const NO_PREDICTION: u32 = 34;
+    pub const WAFERS: u32 = 35;
     /// The last row of document 01.
     pub const LAST_OF_01: u32 = 26;
 }

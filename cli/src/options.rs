@@ -98,6 +98,7 @@ pub fn help() -> String {
         ("MAP", "the slot map that the host expects, as CODES, each 1 or 3; may be left out"),
         ("CLOCK", "the time in seconds, never earlier than the last that was accepted"),
         ("TP, TE", "the time in seconds at which the carrier will be ready to unload"),
+        ("WAFER", values::WAFER),
     ] {
         text += &format!("\n  {word:<10}{meaning}");
     }
@@ -138,9 +139,10 @@ begins with #, prints nothing.
 
   setup P B [SETTING TIMEOUT]       a tool of P ports (1 to 4) and B buffer places (0 to 16); setting time
                                     and timeout of predictions in seconds (0 to 86400), 0 where left out
-  in NUMBER PORT VALUE NAME CODES [CLOCK TIME]
+  in NUMBER PORT VALUE NAME CODES [CLOCK TIME WAFERS]
                                     an input by number; NAME and CODES in hex, - for none; CLOCK and TIME
-                                    in seconds, 0 where left out
+                                    in seconds, 0 where left out; WAFERS in hex, 16 bytes each, process
+                                    and handling as the bits of an f64, high byte first, - where left out
   secs HEX                          a message from the host bridge: the text of an S3F17 in hex
   exchange HEX ROOM                 the same, and its reply, the text of an S3F18, in ROOM bytes of room
   reply NUMBER ROOM                 the reply to an answer, which may be any number
@@ -276,6 +278,8 @@ mod tests {
         assert!(help.contains("\n   8  the buffer place is taken, or the opener is in use\n"));
         assert!(help.contains("\n  11  the clock is earlier than the last accepted\n"));
         assert!(help.contains("\n  PredictedTime CLOCK NAME TP "));
+        assert!(help.contains("\n  Wafers CLOCK NAME [WAFER..] "));
+        assert!(help.contains("\n  12  a time of a wafer is out of range, or"));
         assert!(help.contains("\n  26  another shape or action\n"));
         assert!(help.ends_with("\n  29  the log is cut short\n"));
     }

@@ -1,13 +1,15 @@
 //! What an accepted input did to predictions that no report shows: times that were given, and why one is aborted.
 use crate::numbers::{prediction, row};
 use crate::print::{self, Answer};
+use crate::wafers;
 use hawsermole::{Model, Name, Parts, Prediction, Report, Subject, Tool};
 
-/// A line for each time that was given, and one for each report that a prediction is aborted.
+/// A line for what wafers come to, for each time that was given, and for each report that a prediction is aborted.
 pub fn changes(before: &Tool, after: &Tool, parts: &Parts, given: &Answer) -> Vec<String> {
     let times = after.predictions().flat_map(|new| times(before, after, &new));
     let aborted = print::reports(given).filter_map(|report| aborted(after, parts, &report));
-    times.chain(aborted).collect()
+    let total = (parts.number == row::WAFERS).then(|| wafers::totalled(parts.wafers));
+    total.into_iter().chain(times).chain(aborted).collect()
 }
 
 fn times(before: &Tool, after: &Tool, new: &Prediction) -> Vec<String> {
@@ -75,7 +77,7 @@ fn seconds(count: u32) -> String {
 mod tests {
     use super::*;
     use crate::print::tests::accessed;
-    use hawsermole::Input;
+    use hawsermole::{Input, Wafer};
 
     fn told(tool: &mut Tool, input: Input) -> Vec<String> {
         let before = tool.clone();
@@ -112,6 +114,17 @@ mod tests {
             ]
         );
         assert!(told(Input::Clock { clock: 9 }).is_empty());
+    }
+
+    #[test]
+    fn wafers_and_what_they_come_to() {
+        let wafers = [Wafer { process: 90.5, handling: 12.25 }; 2];
+        let sent = |wafers| Input::Wafers { clock: 1000, name: A, wafers };
+        let ready = "carrier A: ready to unload at 1206, 206 seconds from now; PREDICTED at 1146";
+        let total = "2 wafers take 205.5 seconds, rounded up 206";
+        assert_eq!(told(&mut accessed(60, 120), sent(&wafers)), [total, ready]);
+        let none = told(&mut accessed(60, 120), sent(&[]));
+        assert_eq!(none, ["no wafers: ready to unload now", "carrier A: ready to unload at 1000, now"]);
     }
 
     #[test]

@@ -1,7 +1,7 @@
 //! What tests run on: every state that runs of a small tool reach, the states of a long run, and odd ones.
 use crate::numbers::row;
 use crate::script::Sent;
-use hawsermole::{Argument, Tool, REQUESTS, ROWS, SLOTS, TOOL_BYTES};
+use hawsermole::{Argument, Tool, Wafer, REQUESTS, ROWS, SLOTS, TOOL_BYTES, WAFERS};
 use std::collections::BTreeSet;
 
 /// Numbers that look like chance and are the same in every test.
@@ -39,10 +39,23 @@ fn texts(texts: &[&[u8]], set: fn(&mut Sent, Vec<u8>)) -> Vec<Choice> {
     texts.iter().map(choice).collect()
 }
 
+/// So many wafers of the same times.
+fn wafers(lots: &[(usize, f64, f64)]) -> Vec<Choice> {
+    let choice = |&(count, process, handling): &(usize, f64, f64)| {
+        Box::new(move |sent: &mut Sent| sent.wafers = vec![Wafer { process, handling }; count]) as Choice
+    };
+    lots.iter().map(choice).collect()
+}
+
 /// Clocks and times that meet all that is judged, with this setting time and timeout: a carrier that is ready at 1 is
 /// PREDICTED at once, and late from 3 on; one that is ready at 4 waits until 3.
 const CLOCKS: [u32; 3] = [0, 1, 3];
 const TIMES: [u32; 2] = [1, 4];
+/// Wafers that are ready at once, and after two seconds and a half.
+const LOTS: [(usize, f64, f64); 2] = [(0, 0.0, 0.0), (2, 1.0, 0.25)];
+/// Too many, and times that are no good.
+const ODD_LOTS: [(usize, f64, f64); 4] =
+    [(WAFERS + 1, 0.0, 0.0), (1, 0.1, -0.0), (WAFERS, 0.0, -1.0), (2, f64::NAN, f64::INFINITY)];
 
 /// A tool with the times above.
 pub fn set_up(ports: u32, places: u32) -> Tool {
@@ -57,6 +70,7 @@ pub fn inputs(ports: u32, places: u32, names: &[&[u8]], odd: bool) -> Vec<Sent> 
     let odd_codes: &[&[u8]] = if odd { &[sixes, &[3; 24]] } else { &[] };
     let (codes, maps) = ([&[threes], odd_codes].concat(), [&[b"" as &[u8]], odd_codes].concat());
     let names = [names, odd_texts].concat();
+    let lots = [&LOTS[..], if odd { &ODD_LOTS } else { &[] }].concat();
     let mut every = Vec::new();
     for row in &ROWS {
         let mut sent = vec![Sent { number: row.number, ..Sent::default() }];
@@ -74,6 +88,7 @@ pub fn inputs(ports: u32, places: u32, names: &[&[u8]], odd: bool) -> Vec<Sent> 
                 Argument::Name | Argument::NameOrNone => texts(&names, |sent, name| sent.name = name),
                 Argument::Codes => texts(&codes, |sent, codes| sent.codes = codes),
                 Argument::MapOrNone => texts(&maps, |sent, codes| sent.codes = codes),
+                Argument::Wafers => wafers(&lots),
             };
             sent = with_each(&sent, &choices);
         }
@@ -126,11 +141,12 @@ fn key(tool: &Tool) -> Vec<u8> {
 const BACKWARD: [u32; 10] = [2, 4, 6, 10, 12, 15, 24, 26, 29, 30];
 
 /// The states of one long run. Its clock goes on, and the times of its inputs with it; in a tool with a buffer, which
-/// predicts nothing, it is the clock alone.
+/// predicts nothing, it is the clock alone. Wafers lead where a predicted time does, and are left out.
 pub fn long_run(ports: u32, places: u32, inputs: &[Sent], steps: usize, dice: &mut Dice) -> Vec<Tool> {
     let mut tool = set_up(ports, places);
     let mut states = Vec::new();
-    let does = |sent: &&Sent| places == 0 || sent.number <= row::CLOCK;
+    let last = if places == 0 { row::NO_PREDICTION } else { row::CLOCK };
+    let does = |sent: &&Sent| sent.number <= last;
     let inputs: Vec<&Sent> = inputs.iter().filter(does).collect();
     for step in 0..steps {
         let mut sent = (*dice.one(&inputs)).clone();

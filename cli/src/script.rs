@@ -1,6 +1,6 @@
 //! The reader of lines: what each line of a script asks for.
 use crate::values::{self, shown, Words, NONE};
-use hawsermole::{Argument, Parts, Row, ROWS};
+use hawsermole::{Argument, Parts, Row, Wafer, ROWS};
 use std::ffi::OsStr;
 use std::os::unix::ffi::OsStrExt;
 use std::path::PathBuf;
@@ -57,13 +57,15 @@ pub struct Sent {
     pub codes: Vec<u8>,
     pub clock: u32,
     pub time: u32,
+    pub wafers: Vec<Wafer>,
 }
 
 impl Sent {
     /// The input as the machine takes it.
     pub fn parts(&self) -> Parts<'_> {
         let Sent { number, port, value, clock, time, .. } = *self;
-        Parts { number, port, value, name: &self.name, codes: &self.codes, clock, time }
+        let (name, codes, wafers) = (&self.name, &self.codes, &self.wafers);
+        Parts { number, port, value, name, codes, clock, time, wafers }
     }
 }
 
@@ -71,7 +73,7 @@ const COMMANDS: [&str; 12] = [
     "setup", "in", "secs", "exchange", "reply", "dump", "state", "waiting", "save", "load", "undo", "expect",
 ];
 const SETUP: &str = "setup P B [SETTING TIMEOUT]";
-const IN: &str = "in NUMBER PORT VALUE NAME CODES [CLOCK TIME]";
+const IN: &str = "in NUMBER PORT VALUE NAME CODES [CLOCK TIME WAFERS]";
 const SECS: &str = "secs HEX";
 const EXCHANGE: &str = "exchange HEX ROOM";
 const REPLY: &str = "reply NUMBER ROOM";
@@ -127,6 +129,7 @@ fn read_in(mut words: Words) -> Result<Command, String> {
         codes: values::hex("codes", words.argument("codes", IN)?)?,
         clock: optional("clock", &mut words)?,
         time: optional("time", &mut words)?,
+        wafers: words.next().map_or(Ok(Vec::new()), |word| values::wafers("wafers", word))?,
     };
     words.end(IN)?;
     Ok(Command::In(sent))
@@ -173,7 +176,7 @@ fn read_named(first: &[u8], mut words: Words) -> Result<Command, String> {
         let what = argument.name();
         let word = match (argument, words.next()) {
             (_, Some(word)) => word,
-            (Argument::MapOrNone, None) => NONE,
+            (Argument::MapOrNone | Argument::Wafers, None) => NONE,
             (_, None) => return Err(values::missing(what, &usage)),
         };
         match argument {
@@ -185,19 +188,29 @@ fn read_named(first: &[u8], mut words: Words) -> Result<Command, String> {
             }
             Argument::Clock => sent.clock = values::number(what, word)?,
             Argument::Tp | Argument::Te => sent.time = values::number(what, word)?,
+            Argument::Wafers => sent.wafers = read_wafers(word, &mut words)?,
         }
     }
     words.end(&usage)?;
     Ok(Command::Named(sent))
 }
 
-/// How a named input is written: `MoveIn PORT PLACE`, `Bind PORT NAME [MAP]`.
+/// All wafers that a line has, a word each; `-` as the first is none.
+fn read_wafers<'a>(first: &'a [u8], words: &mut Words<'a>) -> Result<Vec<Wafer>, String> {
+    match first {
+        NONE => Ok(Vec::new()),
+        _ => std::iter::once(first).chain(words).map(|word| values::wafer("wafer", word)).collect(),
+    }
+}
+
+/// How a named input is written: `MoveIn PORT PLACE`, `Bind PORT NAME [MAP]`, `Wafers CLOCK NAME [WAFER..]`.
 pub fn usage(row: &Row) -> String {
     let mut usage = String::from(row.name);
     for argument in row.arguments {
         let word = argument.name().to_uppercase();
         usage += &match argument {
             Argument::MapOrNone => format!(" [{word}]"),
+            Argument::Wafers => " [WAFER..]".into(),
             _ => format!(" {word}"),
         };
     }
@@ -269,6 +282,10 @@ mod tests {
         assert_eq!(read(b"in 4294967295 0 0 - -"), Ok(Command::In(sent(u32::MAX, 0, 0, b"", b""))));
         assert_eq!(read(b"in 31 0 0 - - 9"), Ok(Command::In(timed(31, 9, b"", 0))));
         assert_eq!(read(b"in 32 0 0 4142 - 9 4294967295"), Ok(Command::In(timed(32, 9, b"AB", u32::MAX))));
+        assert_eq!(read(b"in 35 0 0 4142 - 9 7 -"), Ok(Command::In(timed(35, 9, b"AB", 7))));
+        let wafers = vec![Wafer { process: 90.5, handling: 12.25 }; 2];
+        let line = [&b"in 35 0 0 4142 - 9 0 "[..], &b"4056a000000000004028800000000000".repeat(2)].concat();
+        assert_eq!(read(&line), Ok(Command::In(Sent { wafers, ..timed(35, 9, b"AB", 0) })));
     }
 
     /// Each named input with its arguments in the documents' order.
@@ -313,6 +330,10 @@ mod tests {
         assert_eq!(named("PredictedTime 9 AB 69"), timed(32, 9, b"AB", 69));
         assert_eq!(named("Estimate 9 AB 69"), timed(33, 9, b"AB", 69));
         assert_eq!(named("NoPrediction 9 AB"), timed(34, 9, b"AB", 0));
+        assert_eq!(named("Wafers 9 AB"), timed(35, 9, b"AB", 0));
+        assert_eq!(named("Wafers 9 AB -"), timed(35, 9, b"AB", 0));
+        let wafers = vec![Wafer { process: 90.5, handling: 12.25 }, Wafer { process: 0.0, handling: -1.0 }];
+        assert_eq!(named("Wafers 9 AB 90.5+12.25 0+-1"), Sent { wafers, ..timed(35, 9, b"AB", 0) });
     }
 
     #[test]
@@ -346,10 +367,11 @@ mod tests {
         assert_eq!(error("setup 1"), "number of buffer places missing: expected setup P B [SETTING TIMEOUT]");
         assert_eq!(
             error("in 1 1 0 4142"),
-            "codes missing: expected in NUMBER PORT VALUE NAME CODES [CLOCK TIME]"
+            "codes missing: expected in NUMBER PORT VALUE NAME CODES [CLOCK TIME WAFERS]"
         );
         assert_eq!(error("Clock"), "clock missing: expected Clock CLOCK");
         assert_eq!(error("PredictedTime 9 AB"), "tp missing: expected PredictedTime CLOCK NAME TP");
+        assert_eq!(error("Wafers 9"), "name missing: expected Wafers CLOCK NAME [WAFER..]");
     }
 
     #[test]
@@ -369,8 +391,8 @@ mod tests {
             "'0' is one word too many: expected setup P B [SETTING TIMEOUT]"
         );
         assert_eq!(
-            error("in 1 1 0 - - 0 0 -"),
-            "'-' is one word too many: expected in NUMBER PORT VALUE NAME CODES [CLOCK TIME]"
+            error("in 1 1 0 - - 0 0 - -"),
+            "'-' is one word too many: expected in NUMBER PORT VALUE NAME CODES [CLOCK TIME WAFERS]"
         );
     }
 
@@ -388,6 +410,12 @@ mod tests {
         assert_eq!(error("secs 010"), "message: '010' is not pairs of hex digits, or - for none");
         assert_eq!(error("reply -1 9"), "number: '-1' is not a number from 0 to 4294967295");
         assert_eq!(error("reply 1 65537"), "room: '65537' is not a number from 0 to 65536");
+        let wafers = "is not whole wafers of 32 hex digits each, or - for none";
+        assert_eq!(error("in 35 0 0 - - 0 0 00"), format!("wafers: '00' {wafers}"));
+        let wafer = "is not PROCESS+HANDLING, both in decimal seconds, such as 90.5+12.25";
+        assert_eq!(error("Wafers 9 AB 90.5"), format!("wafer: '90.5' {wafer}"));
+        assert_eq!(error("Wafers 9 AB 1+1 -"), format!("wafer: '-' {wafer}"));
+        assert!(error("Wafers 9 AB - 1+1").starts_with("'1+1' is one word too many: expected Wafers"));
         assert!(error("SlotMap AB 333").starts_with("codes: '333' is not 25 digits, one for each slot, or"));
         assert!(error("Bind 1 AB 333").starts_with("map: '333' is not 25 digits, one for each slot, or"));
     }

@@ -1,4 +1,5 @@
-//! Words of a line and what they stand for: numbers, names, codes. Nothing is cut and nothing is guessed.
+//! Words of a line and what they stand for: numbers, names, codes, wafers. Nothing is cut and nothing is guessed.
+use hawsermole::Wafer;
 
 const NUMBER: &str = "a number from 0 to 4294967295";
 /// The most bytes of room that a line can ask for.
@@ -8,6 +9,10 @@ const HEX: &str = "pairs of hex digits, or - for none";
 pub const NONE: &[u8] = b"-";
 /// What the codes of a slot map may be written as.
 pub const CODES: &str = "25 digits, one for each slot, or pairs of hex digits, or - for none";
+
+const WHOLE_WAFERS: &str = "whole wafers of 32 hex digits each, or - for none";
+/// What a wafer is written as.
+pub const WAFER: &str = "PROCESS+HANDLING, both in decimal seconds, such as 90.5+12.25";
 
 /// The words of a line, apart by spaces or tabs.
 pub struct Words<'a> {
@@ -129,6 +134,37 @@ pub fn codes(what: &str, word: &[u8]) -> Result<Vec<u8>, String> {
     }
 }
 
+/// Wafers in hex: 16 bytes each, process and then handling, the bits of each time with the high byte first.
+pub fn wafers(what: &str, word: &[u8]) -> Result<Vec<Wafer>, String> {
+    let bytes = hex_bytes(word).filter(|bytes| bytes.len().is_multiple_of(16));
+    let bytes = bytes.ok_or_else(|| wrong(what, word, WHOLE_WAFERS))?;
+    let time = |bytes: &[u8]| f64::from_be_bytes(bytes.try_into().expect("eight bytes"));
+    let wafer = |bytes: &[u8]| Wafer { process: time(&bytes[..8]), handling: time(&bytes[8..]) };
+    Ok(bytes.chunks_exact(16).map(wafer).collect())
+}
+
+/// A wafer by its times: `90.5+12.25`. A decimal is taken for the f64 that is nearest to it.
+pub fn wafer(what: &str, word: &[u8]) -> Result<Wafer, String> {
+    let plus = word.iter().position(|&byte| byte == b'+');
+    let times = plus.and_then(|plus| {
+        let (process, handling) = (seconds(&word[..plus])?, seconds(&word[plus + 1..])?);
+        Some(Wafer { process, handling })
+    });
+    times.ok_or_else(|| wrong(what, word, WAFER))
+}
+
+/// Decimal digits with a point among them, or none, and a minus sign before them, or none.
+fn seconds(word: &[u8]) -> Option<f64> {
+    let digits = |part: &[u8]| !part.is_empty() && part.iter().all(u8::is_ascii_digit);
+    let unsigned = word.strip_prefix(b"-").unwrap_or(word);
+    let decimal = match unsigned.iter().position(|&byte| byte == b'.') {
+        Some(point) => digits(&unsigned[..point]) && digits(&unsigned[point + 1..]),
+        None => digits(unsigned),
+    };
+    let text = std::str::from_utf8(word).ok().filter(|_| decimal)?;
+    text.parse().ok()
+}
+
 #[cfg(test)]
 mod tests {
     use super::*;
@@ -207,6 +243,40 @@ mod tests {
         assert_eq!(codes("codes", b"-"), Ok(vec![]));
         for odd in [&[b'3'; 23][..], &[b'a'; 25], b"3,3,3"] {
             assert!(codes("codes", odd).is_err());
+        }
+    }
+
+    #[test]
+    fn wafers_in_hex() {
+        let one = b"4056a000000000004028800000000000";
+        assert_eq!(wafers("wafers", one), Ok(vec![Wafer { process: 90.5, handling: 12.25 }]));
+        let two = [one.as_slice(), b"80000000000000007FF8000000000000"].concat();
+        let odd = Wafer { process: -0.0, handling: f64::NAN };
+        assert_eq!(wafers("wafers", &two).unwrap()[1], odd);
+        assert_eq!(wafers("wafers", b"-"), Ok(vec![]));
+        assert_eq!(wafers("wafers", &b"00".repeat(16 * 26)).unwrap().len(), 26);
+        for odd in ["0", "00", "4056a00000000000", "4056a0000000000040288000000000000", "--"] {
+            let message = format!("wafers: '{odd}' is not whole wafers of 32 hex digits each, or - for none");
+            assert_eq!(wafers("wafers", odd.as_bytes()), Err(message));
+        }
+        assert!(wafers("wafers", &one[..31]).is_err() && wafers("wafers", &[b'g'; 32]).is_err());
+    }
+
+    #[test]
+    fn wafers_by_their_times() {
+        let read = |word: &str| wafer("wafer", word.as_bytes());
+        assert_eq!(read("90.5+12.25"), Ok(Wafer { process: 90.5, handling: 12.25 }));
+        assert_eq!(read("007+0"), Ok(Wafer { process: 7.0, handling: 0.0 }));
+        assert_eq!(read("-0+-1.5"), Ok(Wafer { process: -0.0, handling: -1.5 }));
+        assert_eq!(read("0.1+1048576"), Ok(Wafer { process: 0.1, handling: 1_048_576.0 }));
+        assert!(read(&format!("{}+0", "9".repeat(400))).unwrap().process.is_infinite());
+        for odd in [
+            "90.5", "+", "1+", "+1", "1++1", "1+2+3", "1.+1", ".5+1", "1e3+1", "NaN+1", "inf+0", "1,5+1", "-",
+        ] {
+            let message = format!(
+                "wafer: '{odd}' is not PROCESS+HANDLING, both in decimal seconds, such as 90.5+12.25"
+            );
+            assert_eq!(read(odd), Err(message));
         }
     }
 }

@@ -200,7 +200,7 @@ pub const ROWS: [Row; 35] = [
         .needs("a tool without a buffer, and a predicted time of the carrier"),
     row(34, "NoPrediction", &[Clock, Name], "no ready to unload time can be predicted for the carrier")
         .needs("a tool without a buffer, and the carrier's prediction WAITING FOR PREDICTION"),
-    row(35, "Wafers", &[Clock, Name, Wafers], "predict the same by the times of the carrier's wafers").needs(
+    row(35, "Wafers", &[Clock, Name, Wafers], "predict ready to unload by the times of the carrier's wafers").needs(
         "a tool without a buffer, and the carrier's prediction WAITING FOR PREDICTION and without a predicted time",
     ),
 ];

@@ -1,9 +1,9 @@
 //! The causes that are named are held to the machine's answers and to the state.
 use super::*;
-use crate::print::tests::{stored, tool};
+use crate::print::tests::{accessed, stored, tool};
 use crate::runs::{damaged, inputs, long_run, reached, set_up, Dice};
 use crate::script::Sent;
-use hawsermole::{Carrier, Input, Port, Request};
+use hawsermole::{Carrier, Input, Port, Request, Wafer};
 
 /// What a cause says, read off the tool: port and carrier are those of the input.
 struct Seen<'a> {
@@ -93,11 +93,11 @@ fn is_name(text: &[u8]) -> bool {
 
 /// Whether a cause of refusal 1 is so.
 fn holds_of_parts(cause: Cause, at: &Seen) -> bool {
-    let Sent { number, port, value, name, codes, .. } = at.parts;
+    let Sent { number, port, value, name, codes, wafers, .. } = at.parts;
     match cause {
         Cause::NoTool => at.ports == 0 && !at.tool.is_sound(),
         Cause::NotSound => at.ports != 0 && !at.tool.is_sound(),
-        Cause::NoInput => !(1..=34).contains(number),
+        Cause::NoInput => !(1..=35).contains(number),
         Cause::Port => *port > at.ports || (*port == 0 && ![2, 5, 6].contains(number)),
         Cause::NothingGiven => *number == 2 && *port == 0 && name.is_empty(),
         Cause::NoBuffer => *number == 18 && at.places == 0,
@@ -109,6 +109,7 @@ fn holds_of_parts(cause: Cause, at: &Seen) -> bool {
         Cause::ExpectedMap => {
             [1, 3].contains(number) && (codes.len() != 25 || codes.iter().any(|code| ![1, 3].contains(code)))
         }
+        Cause::TooManyWafers => *number == 35 && wafers.len() > 25,
         _ => false,
     }
 }
@@ -237,9 +238,24 @@ fn holds_of_prediction(cause: Cause, at: &Seen) -> bool {
     }
 }
 
+/// Whether a cause of 12 is so, by whole numbers of parts.
+fn holds_of_wafers(cause: Cause, at: &Seen) -> bool {
+    let times = at.parts.wafers.iter().flat_map(|wafer| [wafer.process, wafer.handling]);
+    let parts = |time: f64| (time * 1024.0) as u64;
+    let good = |time: f64| parts(time) < 1 << 30 && parts(time) as f64 / 1024.0 == time;
+    match cause {
+        Cause::WaferTime => !times.clone().all(good),
+        Cause::TpTooLate => {
+            let total: u64 = times.clone().map(parts).sum();
+            times.clone().all(good) && u64::from(at.parts.clock) + total.div_ceil(1024) >= 1 << 32
+        }
+        _ => false,
+    }
+}
+
 fn holds(cause: Cause, at: &Seen) -> bool {
     let of_state = [holds_of_port, holds_of_carrier, holds_of_pod, holds_of_queue, holds_of_prediction];
-    [holds_of_parts, holds_of_names].iter().chain(&of_state).any(|of| of(cause, at))
+    [holds_of_parts, holds_of_names, holds_of_wafers].iter().chain(&of_state).any(|of| of(cause, at))
 }
 
 /// How often each cause was named.
@@ -323,7 +339,7 @@ fn full_tool(met: &mut Met) {
 fn full_queue(met: &mut Met) {
     let names: Vec<[u8; 1]> = (b'a'..b'a' + 16).map(|name| [name]).collect();
     let stored_names: Vec<&[u8]> = names.iter().map(|name| name.as_slice()).collect();
-    let inputs = inputs(3, 16, &[b"a", b"p", b"A"], false);
+    let inputs = inputs(3, 16, &[b"a", b"b", b"p", b"A"], false);
     let mut tool = stored(3, &stored_names);
     let queued = names.iter().zip([3, 1, 2].into_iter().cycle());
     let queued = queued.map(|(name, port)| Parts { port, ..parts(7, 0, name) });
@@ -332,6 +348,17 @@ fn full_queue(met: &mut Met) {
     for parts in queued.chain(started) {
         play(&mut tool, &[parts]);
         met.agree_on(&[tool.clone()], &inputs);
+    }
+}
+
+/// A carrier that waits for a predicted time when the clock is about to end, and wafers that end before it or after it.
+fn late_clock(met: &mut Met) {
+    let tool = accessed(1, 2);
+    let inputs = inputs(1, 0, &[A], true);
+    for before in 0..=4 {
+        for sent in inputs.iter().filter(|sent| sent.number >= 31) {
+            met.agree(&tool, &Sent { clock: u32::MAX - before, ..sent.clone() });
+        }
     }
 }
 
@@ -365,6 +392,7 @@ fn every_refusal_has_its_causes() {
     larger_tools(&mut met, &mut dice);
     full_tool(&mut met);
     full_queue(&mut met);
+    late_clock(&mut met);
     let odd = [Cause::NoCarrier, Cause::IdNotRead, Cause::IdFailed];
     assert_eq!(met.never(), [[Cause::NoTool, Cause::NotSound, Cause::NoInput].as_slice(), &odd].concat());
     odd_tools(&mut met, &mut dice);
@@ -377,7 +405,7 @@ fn numbers_without_a_row_and_tools_that_are_none() {
     let tool = Tool::setup(1, 0).unwrap();
     let mut bytes = *tool.as_bytes();
     bytes[3] = 7;
-    for number in [0, 1, 13, 35, 257, u32::MAX] {
+    for number in [0, 1, 13, 36, 257, u32::MAX] {
         let sent = Sent { number, port: 1, name: b"A".to_vec(), ..Sent::default() };
         met.agree_on(&[tool.clone(), Tool::none(), Tool::from_bytes(&bytes)], &[sent]);
     }
@@ -483,4 +511,24 @@ fn a_full_queue_names_the_carriers_own_request() {
     let mut tool = stored(1, &names.iter().map(|name| name.as_slice()).collect::<Vec<_>>());
     names.iter().for_each(|name| play(&mut tool, &[parts(7, 0, name)]));
     assert_eq!(told(&tool, parts(7, 0, b"c")), ["16 CarrierOuts are queued: c to port 1, queued"]);
+}
+
+/// Which time is off, and what is near it; a time that is too late with what it comes from.
+#[test]
+fn wafers_that_are_refused_are_named() {
+    let mut tool = accessed(60, 120);
+    let wafers = |clock, wafers| Parts { number: 35, name: A, clock, wafers, ..Parts::default() };
+    let good = Wafer { process: 90.5, handling: 12.25 };
+    let many = [good; 26];
+    assert_eq!(told(&tool, wafers(9, &many)), ["there are too many wafers: 26, and not more than 25"]);
+    let odd = [good, Wafer { process: 0.1, handling: 12.0 }];
+    let off = "process time of wafer 2, 0.1, lies between 0.099609375 and 0.1005859375";
+    assert_eq!(told(&tool, wafers(9, &odd)), [format!("a time of a wafer is out of range: {off}")]);
+    let late = "the predicted time is past the clock's range: 4294967296, from clock 4294967193 on; \
+                1 wafer takes 102.75 seconds, rounded up 103";
+    assert_eq!(told(&tool, wafers(u32::MAX - 102, &many[..1])), [late]);
+    assert!(told(&tool, wafers(u32::MAX - 103, &many[..1])).is_empty());
+    play(&mut tool, &[wafers(9, &many[..1])]);
+    let already = "the carrier has a predicted time already: A is WAITING FOR PREDICTION, ready at 112";
+    assert_eq!(told(&tool, wafers(8, &odd)), [already]);
 }

@@ -4,6 +4,7 @@ use crate::causes::Cause;
 use crate::grounds::{ground, Ground};
 use crate::numbers::prediction;
 use crate::people;
+use crate::wafers;
 use hawsermole::{Carrier, Prediction};
 
 impl Standing<'_> {
@@ -29,6 +30,19 @@ impl Standing<'_> {
             let second = ground(own.tp.is_some(), Cause::PredictedAlready, people::prediction(own));
             [awaited(own), second].into()
         })
+    }
+
+    /// As for a Tp, and 12 unless the wafers give one.
+    pub fn wafers(&self, carrier: &Carrier) -> Grounds {
+        let (clock, wafers) = (self.parts.clock, self.parts.wafers);
+        let odd = wafers::odd_time(wafers);
+        let odd = odd.and_then(|odd| ground(true, Cause::WaferTime, odd));
+        let late = wafers::predicted(clock, wafers).filter(|&tp| tp > wafers::LAST);
+        let late = late.and_then(|tp| {
+            let detail = format!("{tp}, from clock {clock} on; {}", wafers::totalled(wafers));
+            ground(true, Cause::TpTooLate, detail)
+        });
+        self.predicted_time(carrier).into_iter().chain([odd, late]).collect()
     }
 
     /// 5 unless there is a Tp.
