@@ -24,9 +24,9 @@ fn times(wafers: &[Wafer]) -> impl Iterator<Item = (String, f64)> + '_ {
     })
 }
 
-/// The total, which is exact where every time is good.
+/// The total, which is exact where every time is good, and 0 where all are minus zero.
 fn total(wafers: &[Wafer]) -> f64 {
-    times(wafers).map(|(_, time)| time).sum()
+    times(wafers).fold(0.0, |sum, (_, time)| sum + time)
 }
 
 /// The predicted time, which may be past the last second; none where some time isn't good.
@@ -44,23 +44,23 @@ pub fn odd_time(wafers: &[Wafer]) -> Option<String> {
         1 => "; and 1 more".into(),
         more => format!("; and {more} more"),
     };
-    Some(format!("{what}, {}{more}", matter(time)))
+    Some(format!("{what} is {}{more}", matter(time)))
 }
 
-/// `0.1, lies between 0.099609375 and 0.1005859375`
+/// `0.1, between the good ones 0.099609375 and 0.1005859375`
 fn matter(time: f64) -> String {
     let text = text(time);
     if time.is_nan() {
-        return format!("{text}, is no number");
+        return format!("{text}, no number");
     }
     if time < 0.0 {
-        return format!("{text}, is less than 0");
+        return format!("{text}, less than 0");
     }
     if time > LONGEST {
-        return format!("{text}, is more than the longest, {LONGEST}");
+        return format!("{text}, more than the longest good one, {LONGEST}");
     }
     let below = (time * PARTS).floor() / PARTS;
-    format!("{text}, lies between {below} and {}", below + 1.0 / PARTS)
+    format!("{text}, between the good ones {below} and {}", below + 1.0 / PARTS)
 }
 
 /// A time in decimal digits; very long and very short ones with an exponent.
@@ -97,6 +97,7 @@ mod tests {
     fn totals() {
         assert_eq!(totalled(&[]), "no wafers: ready to unload now");
         assert_eq!(totalled(&[wafer(0.5, 0.5)]), "1 wafer takes 1 second");
+        assert_eq!(totalled(&[wafer(-0.0, -0.0)]), "1 wafer takes 0 seconds");
         assert_eq!(totalled(&[wafer(90.5, 12.25); 2]), "2 wafers take 205.5 seconds, rounded up 206");
         assert_eq!(totalled(&[wafer(LONGEST, LONGEST); 25]).split(' ').nth(3), Some("52428799.951171875"));
         assert_eq!((predicted(9, &[wafer(0.5, 1.0 / PARTS)]), predicted(9, &[])), (Some(10), Some(9)));
@@ -108,16 +109,16 @@ mod tests {
     fn times_that_are_not_good() {
         let of = |process, handling| odd_time(&[wafer(1.0, 0.0), wafer(process, handling)]);
         assert_eq!(of(LONGEST, -0.0), None);
-        let process = |text: &str| Some(format!("process time of wafer 2, {text}"));
-        assert_eq!(of(0.1, 1.0), process("0.1, lies between 0.099609375 and 0.1005859375"));
-        assert_eq!(of(1e-9, 1.0), process("0.000000001, lies between 0 and 0.0009765625"));
-        assert_eq!(of(5e-324, 1.0), process("5e-324, lies between 0 and 0.0009765625"));
-        assert_eq!(of(-1.5, 1.0), process("-1.5, is less than 0"));
-        assert_eq!(of(f64::NEG_INFINITY, 1.0), process("-inf, is less than 0"));
-        assert_eq!(of(TOO_LONG, 1.0), process("1048576, is more than the longest, 1048575.9990234375"));
-        assert_eq!(of(f64::MAX, 1.0).unwrap().split(", ").nth(1), Some("1.7976931348623157e308"));
-        assert_eq!(of(f64::NAN, 0.1), process("NaN, is no number; and 1 more"));
-        assert!(of(1.0, f64::INFINITY).unwrap().starts_with("handling time of wafer 2, inf, is more"));
+        let process = |text: &str| Some(format!("process time of wafer 2 is {text}"));
+        assert_eq!(of(0.1, 1.0), process("0.1, between the good ones 0.099609375 and 0.1005859375"));
+        assert_eq!(of(1e-9, 1.0), process("0.000000001, between the good ones 0 and 0.0009765625"));
+        assert_eq!(of(5e-324, 1.0), process("5e-324, between the good ones 0 and 0.0009765625"));
+        assert_eq!(of(-1.5, 1.0), process("-1.5, less than 0"));
+        assert_eq!(of(f64::NEG_INFINITY, 1.0), process("-inf, less than 0"));
+        assert_eq!(of(TOO_LONG, 1.0), process("1048576, more than the longest good one, 1048575.9990234375"));
+        assert_eq!(of(f64::MAX, 1.0).unwrap().split([' ', ',']).nth(6), Some("1.7976931348623157e308"));
+        assert_eq!(of(f64::NAN, 0.1), process("NaN, no number; and 1 more"));
+        assert!(of(1.0, f64::INFINITY).unwrap().starts_with("handling time of wafer 2 is inf, more"));
         assert!(odd_time(&[wafer(0.1, 0.1); 25]).unwrap().ends_with("; and 49 more"));
     }
 }

@@ -260,6 +260,20 @@ predictions() {
     outcome "load of a damaged prediction"
 }
 
+# Wafers by name and by their bits leave the same bytes, and so does the time that they come to.
+wafers() {
+    sed '$d' "$work/visit" >"$work/before"
+    for line in 'Wafers 900 A 90.5+9 0.25+0.0009765625' \
+        'in 35 0 0 41 - 900 0 4056a0000000000040220000000000003fd00000000000003f50000000000000' \
+        'PredictedTime 900 A 1000'; do
+        { cat "$work/before"; echo "$line"; echo "save $work/after"; } | play
+        cmp -s "$saved" "$work/after" && echo same || echo differs
+    done >"$work/same"
+    printf 'same\nsame\nsame\n' | want 0
+    cp "$work/same" "$work/out"
+    outcome "wafers and the time that they come to"
+}
+
 # A script is a test: status 1 where a line that expects isn't met, or none expects.
 checks() {
     checked=$here/checked
@@ -326,6 +340,7 @@ slips
 files
 queues
 predictions
+wafers
 checks
 wrong_calls
 logs

@@ -522,7 +522,7 @@ fn wafers_that_are_refused_are_named() {
     let many = [good; 26];
     assert_eq!(told(&tool, wafers(9, &many)), ["there are too many wafers: 26, and not more than 25"]);
     let odd = [good, Wafer { process: 0.1, handling: 12.0 }];
-    let off = "process time of wafer 2, 0.1, lies between 0.099609375 and 0.1005859375";
+    let off = "process time of wafer 2 is 0.1, between the good ones 0.099609375 and 0.1005859375";
     assert_eq!(told(&tool, wafers(9, &odd)), [format!("a time of a wafer is out of range: {off}")]);
     let late = "the predicted time is past the clock's range: 4294967296, from clock 4294967193 on; \
                 1 wafer takes 102.75 seconds, rounded up 103";
