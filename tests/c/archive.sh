@@ -28,7 +28,7 @@ needed=$("$nm" -u "$archive" | awk '$1 == "U" { print $2 }' | sort -u)
 
 expect 'functions' "$(echo "$defined" | grep '^hm_' | one_line)" \
     "hm_judge hm_name hm_reply hm_reports_size hm_secs_at hm_secs_exchange hm_secs_step hm_setup hm_sound hm_step \
-hm_time_step hm_tool_size hm_version hm_waiting"
+hm_time_step hm_tool_size hm_version hm_wafers_step hm_waiting"
 
 # A freestanding compiler may ask for these three of its own accord; anything else would be a new need of the firmware.
 beyond=$(for name in $needed; do

@@ -7,13 +7,14 @@
 #include <signal.h>
 
 #include "chance.h"
+#include "hawsermole_words.h"
 #include "lend.h"
 
 #define ENOUGH 50000 /* inputs after which every row must have been accepted and every answer met */
 
-static struct room tool_room, reports_room, name_room, codes_room;
+static struct room tool_room, reports_room, name_room, codes_room, wafers_room;
 static unsigned long inputs, seed, at, failures, set_ups, unsound_tools, damaged_tools, slot_maps[HM_STATUS_FAILED + 1];
-static unsigned long answers[HM_REFUSED_CLOCK_EARLIER + 1], accepted_rows[HM_INPUTS + 1];
+static unsigned long answers[HM_REFUSED_TIME_OUT_OF_RANGE + 1], accepted_rows[HM_INPUTS + 1];
 static unsigned long accepted_padded, refused_texts, predictions[HM_PREDICTION_COMPLETED + 1];
 static unsigned most_records, most_requests;
 
@@ -21,7 +22,7 @@ struct outcome {
     uint32_t sound_before, name_bytes, answer, sound_after;
     hm_tool tool;
     hm_reports reports;
-    int kept; /* guards, name and codes are as they were */
+    int kept; /* guards, name, codes and wafers are as they were */
 };
 
 static void wrong(const struct input *in, const char *what)
@@ -29,7 +30,7 @@ static void wrong(const struct input *in, const char *what)
     failures++;
     fprintf(stderr, "input %lu of seed %lu (number %u, port %u, value %u, name of %u, codes of %u, ", at, seed,
             in->number, in->port, in->value, in->name_length, in->codes_length);
-    fprintf(stderr, "clock %u, time %u): %s\n", in->clock, in->time, what);
+    fprintf(stderr, "clock %u, time %u, wafers %llu): %s\n", in->clock, in->time, (unsigned long long)in->wafers, what);
     if (failures == 10) {
         exit(1);
     }
@@ -52,32 +53,45 @@ static int all_zero(const void *bytes, size_t length)
     return any == 0;
 }
 
+/* Of the function that takes the input. */
+static uint32_t answer_of(hm_tool *tool, hm_reports *reports, const struct input *in, const uint8_t *name,
+                          const uint8_t *codes, const hm_wafer *wafers)
+{
+    if (for_time_step(in)) {
+        return hm_time_step(tool, reports, in->number, in->clock, name, in->name_length, in->time);
+    }
+    if (for_wafers(in)) {
+        return hm_wafers(tool, reports, in->clock, name, in->name_length, wafers, in->wafers);
+    }
+    return hm_step(tool, reports, in->number, in->port, in->value, name, in->name_length, codes, in->codes_length);
+}
+
 /* Gives the input to a copy of the tool, in memory placed so. */
 static struct outcome call(const hm_tool *tool, const struct input *in, enum placing placing)
 {
     struct outcome out;
-    struct lent t, r, n, c;
+    struct lent t, r, n, c, w;
+    size_t wafers = for_wafers(in) && in->wafers <= HM_WAFERS ? (size_t)in->wafers * sizeof(hm_wafer) : 0;
 
     any_bytes((uint8_t *)&out.reports, sizeof out.reports); /* what stood there before must be gone */
     t = lend(&tool_room, placing, tool, sizeof *tool);
     r = lend(&reports_room, placing, &out.reports, sizeof out.reports);
     n = lend(&name_room, placing, in->name, in->name_length);
-    c = lend(&codes_room, placing, in->codes, in->codes_length);
+    c = lend(&codes_room, placing, in->rest.codes, in->codes_length);
+    w = lend(&wafers_room, wafers == 0 ? AT_END : placing, in->rest.wafers, wafers); /* on the heap none is aligned */
 
     out.sound_before = hm_sound((const hm_tool *)t.readable);
     out.name_bytes = hm_name(n.readable, in->name_length);
-    out.answer = brings_clock(in)
-                     ? hm_time_step((hm_tool *)t.writable, (hm_reports *)r.writable, in->number, in->clock, n.readable,
-                                    in->name_length, in->time)
-                     : hm_step((hm_tool *)t.writable, (hm_reports *)r.writable, in->number, in->port, in->value,
-                               n.readable, in->name_length, c.readable, in->codes_length);
+    out.answer = answer_of((hm_tool *)t.writable, (hm_reports *)r.writable, in, n.readable, c.readable,
+                           (const hm_wafer *)(const void *)w.readable);
     out.sound_after = hm_sound((const hm_tool *)t.readable);
 
     memcpy(&out.tool, t.writable, sizeof out.tool);
     memcpy(&out.reports, r.writable, sizeof out.reports);
     out.kept = memcmp(n.readable, in->name, in->name_length) == 0;
-    out.kept &= memcmp(c.readable, in->codes, in->codes_length) == 0;
-    out.kept &= give_back(&t) & give_back(&r) & give_back(&n) & give_back(&c);
+    out.kept &= memcmp(c.readable, in->rest.codes, in->codes_length) == 0;
+    out.kept &= memcmp(w.readable, in->rest.wafers, wafers) == 0;
+    out.kept &= give_back(&t) & give_back(&r) & give_back(&n) & give_back(&c) & give_back(&w);
     return out;
 }
 
@@ -120,10 +134,10 @@ static void judge_slot_map(const hm_tool *before, const struct input *in, const 
     while (i < HM_RECORDS - 1 && before->carriers[i].slot == out->tool.carriers[i].slot) {
         i++;
     }
-    expected = memcmp(before->expected_maps[i], in->codes, HM_SLOTS) == 0 && before->expected_maps[i][0] != 0
+    expected = memcmp(before->expected_maps[i], in->rest.codes, HM_SLOTS) == 0 && before->expected_maps[i][0] != 0
                    ? HM_STATUS_OK
                    : HM_STATUS_WAITING_FOR_HOST;
-    if (out->tool.carriers[i].slot != expected || memcmp(out->tool.carriers[i].map, in->codes, HM_SLOTS) != 0) {
+    if (out->tool.carriers[i].slot != expected || memcmp(out->tool.carriers[i].map, in->rest.codes, HM_SLOTS) != 0) {
         wrong(in, "a slot map that wasn't kept, or was judged wrongly");
     }
     slot_maps[expected]++;
@@ -135,7 +149,7 @@ static int needs_name(const struct input *in)
     int takes = (in->number >= HM_INPUT_BIND && in->number <= HM_INPUT_CARRIER_IN) || in->number == HM_INPUT_ID_READ ||
                 (in->number >= HM_INPUT_OPEN && in->number <= HM_INPUT_CLOSE) ||
                 in->number == HM_INPUT_CANCEL_CARRIER_OUT ||
-                (in->number >= HM_INPUT_PREDICTED_TIME && in->number <= HM_INPUT_NO_PREDICTION);
+                (in->number >= HM_INPUT_PREDICTED_TIME && in->number <= HM_INPUT_WAFERS);
     return takes && !(in->number == HM_INPUT_CANCEL_BIND && in->name_length == 0);
 }
 
@@ -180,7 +194,7 @@ static void judge_times(const hm_tool *before, const struct input *in, const hm_
     const uint32_t was = hm_seconds(&before->clock), is = hm_seconds(&after->clock);
     unsigned i;
 
-    if (is != (brings_clock(in) ? in->clock : was) || is < was) {
+    if (is != (for_time_step(in) || for_wafers(in) ? in->clock : was) || is < was) {
         wrong(in, "a clock that this input doesn't leave");
     }
     if (memcmp(&before->setting, &after->setting, 2 * sizeof after->setting) != 0) {
@@ -193,6 +207,53 @@ static void judge_times(const hm_tool *before, const struct input *in, const hm_
     }
 }
 
+/* A whole number of parts, or too many of them for any time. */
+static uint64_t parts_of(double time)
+{
+    const uint64_t none = (uint64_t)HM_WAFER_PARTS * HM_WAFER_SECONDS;
+    const int within = time >= 0 && time < HM_WAFER_SECONDS;
+    const uint64_t parts = within ? (uint64_t)(time * HM_WAFER_PARTS) : none;
+    return (double)parts == time * HM_WAFER_PARTS ? parts : none;
+}
+
+/* The predicted time that wafers come to; past 2^32 - 1 where there is none. */
+static uint64_t predicted_by(const struct input *in)
+{
+    const uint64_t none = parts_of(-1);
+    uint64_t total = 0, i;
+
+    for (i = 0; i < in->wafers; i++) {
+        const uint64_t process = parts_of(in->rest.wafers[i].process), handling = parts_of(in->rest.wafers[i].handling);
+        if (process == none || handling == none) {
+            return UINT64_MAX;
+        }
+        total += process + handling;
+    }
+    return in->clock + (total + HM_WAFER_PARTS - 1) / HM_WAFER_PARTS;
+}
+
+/* 1 for too many; 12 for what gives no time, and for nothing else; accepted, it is the time that they give. */
+static void judge_wafers(const struct input *in, const struct outcome *out)
+{
+    const hm_prediction *own;
+    uint64_t tp;
+
+    if (in->wafers > HM_WAFERS) {
+        if (out->answer != HM_REFUSED_OUT_OF_RANGE) {
+            wrong(in, "too many wafers have to be answered 1");
+        }
+        return;
+    }
+    tp = predicted_by(in);
+    if (out->answer == HM_REFUSED_TIME_OUT_OF_RANGE ? tp <= UINT32_MAX : out->answer == HM_ACCEPTED && tp > UINT32_MAX) {
+        wrong(in, "times that were judged wrongly");
+    }
+    own = hm_find_prediction(&out->tool, in->name, in->name_length);
+    if (out->answer == HM_ACCEPTED && (own == NULL || hm_seconds(&own->predicted) != tp)) {
+        wrong(in, "a predicted time that isn't the wafers'");
+    }
+}
+
 /* A row has the answers that its text names. */
 static int may_answer(const struct input *in, uint32_t answer)
 {
@@ -201,20 +262,24 @@ static int may_answer(const struct input *in, uint32_t answer)
     case HM_INPUT_PREDICTED_TIME:
     case HM_INPUT_ESTIMATE:
     case HM_INPUT_NO_PREDICTION: return answer <= 2 || answer == 5 || answer == HM_REFUSED_CLOCK_EARLIER;
-    default: return answer != HM_REFUSED_CLOCK_EARLIER;
+    case HM_INPUT_WAFERS: return answer <= 2 || answer == 5 || answer >= HM_REFUSED_CLOCK_EARLIER;
+    default: return answer < HM_REFUSED_CLOCK_EARLIER;
     }
 }
 
 static void judge(const hm_tool *before, const struct input *in, const struct outcome *out)
 {
-    if (out->answer > HM_REFUSED_CLOCK_EARLIER || out->sound_before > 1 || !may_answer(in, out->answer)) {
+    if (out->answer > HM_REFUSED_TIME_OUT_OF_RANGE || out->sound_before > 1 || !may_answer(in, out->answer)) {
         wrong(in, "an answer that the documents don't have");
         return;
     }
     if (!out->kept) {
-        wrong(in, "name, codes or a guard byte changed");
+        wrong(in, "name, codes, wafers or a guard byte changed");
     }
     judge_name(in, out);
+    if (for_wafers(in)) {
+        judge_wafers(in, out);
+    }
     if (out->answer == HM_ACCEPTED) {
         if (out->sound_before != 1 || in->number < 1 || in->number > HM_INPUTS) {
             wrong(in, "accepted, but not an input to a sound tool");
@@ -245,7 +310,7 @@ static void count(const struct input *in, const struct outcome *out)
 {
     unsigned i;
 
-    answers[out->answer <= HM_REFUSED_CLOCK_EARLIER ? out->answer : 1]++;
+    answers[out->answer <= HM_REFUSED_TIME_OUT_OF_RANGE ? out->answer : 1]++;
     for (i = 0; i < HM_REPORTS; i++) {
         const hm_report *r = &out->reports.items[i];
         predictions[r->model == HM_MODEL_PREDICTION && r->new_state <= HM_PREDICTION_COMPLETED ? r->new_state : 0]++;
@@ -310,6 +375,10 @@ static void plain_input(hm_tool *tool, uint32_t number, uint32_t port, uint32_t 
     in.codes_length = number == HM_INPUT_SLOT_MAP ? HM_SLOTS : 0;
     in.clock = hm_seconds(&tool->clock);
     in.time = in.clock + SETTING + 1;
+    if (for_wafers(&in)) {
+        fitting_wafers(&in);
+        odd_wafers(&in);
+    }
     at++;
     give(tool, &in);
 }
@@ -332,7 +401,8 @@ static void fill_queue(hm_tool *tool)
     plain_input(tool, HM_INPUT_CARRIER_OUT, 1, 1);
 }
 
-/* A tool without a buffer, a carrier IN ACCESS at each port: the predicted time of most is told, and an estimate. */
+/* A tool without a buffer, a carrier IN ACCESS at each port: wafers that are odd, the predicted time of most, and an
+   estimate. */
 static void predict_all(hm_tool *tool)
 {
     static const uint32_t visit[] = {HM_INPUT_LOAD_START, HM_INPUT_LOAD_DONE, HM_INPUT_ID_READ,
@@ -345,6 +415,7 @@ static void predict_all(hm_tool *tool)
         for (i = 0; i < sizeof visit / sizeof visit[0]; i++) {
             plain_input(tool, visit[i], port, port);
         }
+        plain_input(tool, HM_INPUT_WAFERS, port, port);
         plain_input(tool, below(4) ? HM_INPUT_PREDICTED_TIME : HM_INPUT_NO_PREDICTION, port, port);
         plain_input(tool, HM_INPUT_ESTIMATE, port, port);
     }
@@ -441,7 +512,7 @@ static void summary(void)
     printf("callers: %lu inputs of seed %lu, %lu set-ups, %lu damaged tools, %lu inputs to a tool that isn't sound\n",
            at, seed, set_ups, damaged_tools, unsound_tools);
     predicted = print_predictions();
-    for (i = 0; i <= HM_REFUSED_CLOCK_EARLIER; i++) {
+    for (i = 0; i <= HM_REFUSED_TIME_OUT_OF_RANGE; i++) {
         printf("%s%u: %lu", i == 0 ? "answers " : ", ", i, answers[i]);
         met += answers[i] > 0;
     }
@@ -454,7 +525,7 @@ static void summary(void)
            slot_maps[HM_STATUS_WAITING_FOR_HOST]);
     printf("padded names accepted %lu, texts that are no name %lu, %lu failed\n", accepted_padded, refused_texts,
            failures);
-    if (inputs >= ENOUGH && (rows < HM_INPUTS || met <= HM_REFUSED_CLOCK_EARLIER || unsound_tools == 0 ||
+    if (inputs >= ENOUGH && (rows < HM_INPUTS || met <= HM_REFUSED_TIME_OUT_OF_RANGE || unsound_tools == 0 ||
                              !predicted || most_requests < HM_REQUESTS || slot_maps[HM_STATUS_OK] == 0 ||
                              slot_maps[HM_STATUS_WAITING_FOR_HOST] == 0 || accepted_padded == 0 ||
                              refused_texts == 0)) {
@@ -474,6 +545,7 @@ int main(int argc, char **argv)
     make_room(&reports_room);
     make_room(&name_room);
     make_room(&codes_room);
+    make_room(&wafers_room);
     signal(SIGSEGV, touched);
     signal(SIGBUS, touched);
 

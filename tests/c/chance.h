@@ -12,15 +12,26 @@
 
 #define LONGEST 300 /* bytes of the longest name and of the longest codes */
 
+/* No row has codes and wafers: they share their bytes, of which a board has few. */
 struct input {
     uint32_t number, port, value, name_length, codes_length, clock, time;
-    uint8_t name[LONGEST], codes[LONGEST];
+    uint8_t name[LONGEST];
+    uint64_t wafers; /* how many are sent; of more than HM_WAFERS none is there */
+    union {
+        uint8_t codes[LONGEST];
+        hm_wafer wafers[HM_WAFERS];
+    } rest;
 };
 
-/* Whether hm_time_step takes the input, and not hm_step. */
-static inline int brings_clock(const struct input *in)
+/* Which function takes the input: this or the next, or else hm_step. */
+static inline int for_time_step(const struct input *in)
 {
     return in->number >= HM_INPUT_CLOCK && in->number <= HM_INPUT_NO_PREDICTION;
+}
+
+static inline int for_wafers(const struct input *in)
+{
+    return in->number == HM_INPUT_WAFERS;
 }
 
 /* The times of most set-ups: those of document 000's scenarios. */
@@ -88,7 +99,7 @@ static void good_codes(struct input *in)
     uint32_t i;
     in->codes_length = HM_SLOTS;
     for (i = 0; i < HM_SLOTS; i++) {
-        in->codes[i] = (uint8_t)below(HM_CODE_GREATEST + 1);
+        in->rest.codes[i] = (uint8_t)below(HM_CODE_GREATEST + 1);
     }
 }
 
@@ -98,7 +109,7 @@ static void expected_codes(struct input *in)
     uint32_t i;
     in->codes_length = below(4) ? HM_SLOTS : 0;
     for (i = 0; i < in->codes_length; i++) {
-        in->codes[i] = below(2) ? HM_CODE_EMPTY : HM_CODE_CORRECTLY_OCCUPIED;
+        in->rest.codes[i] = below(2) ? HM_CODE_EMPTY : HM_CODE_CORRECTLY_OCCUPIED;
     }
 }
 
@@ -111,8 +122,8 @@ static void codes_as_expected(struct input *in, const hm_tool *tool)
     for (i = 0; i < HM_RECORDS; i++) {
         if (memcmp(tool->carriers[i].name, padded, HM_NAME_BYTES) == 0 && tool->expected_maps[i][0] != 0) {
             uint8_t change = below(3) ? 0 : HM_CODE_EMPTY ^ HM_CODE_CORRECTLY_OCCUPIED;
-            memcpy(in->codes, tool->expected_maps[i], HM_SLOTS);
-            in->codes[below(HM_SLOTS)] ^= change;
+            memcpy(in->rest.codes, tool->expected_maps[i], HM_SLOTS);
+            in->rest.codes[below(HM_SLOTS)] ^= change;
             return;
         }
     }
@@ -139,21 +150,72 @@ static void fitting_times(struct input *in, const hm_tool *tool)
     in->time = in->clock + ahead - SETTING;
 }
 
+/* A good time: seldom the longest, most of them short. */
+static double some_time(void)
+{
+    const uint32_t longest = HM_WAFER_PARTS * (uint32_t)HM_WAFER_SECONDS - 1;
+    uint32_t parts = below(4) ? below(HM_WAFER_PARTS * SETTING) : HM_WAFER_PARTS * below(4);
+    return (double)(below(64) ? parts : longest) / HM_WAFER_PARTS;
+}
+
+static double odd_time(void)
+{
+    static const double odd[] = {-1, 0.1, 1.0 / 2048, -1.0 / 1024, 1e300, HM_WAFER_SECONDS,
+                                 HM_WAFER_SECONDS - 1.0 / 2048};
+    double time = odd[below(sizeof odd / sizeof odd[0])];
+    if (below(2)) {
+        any_bytes((uint8_t *)&time, sizeof time);
+    }
+    return time;
+}
+
+/* No wafers, a few, or up to as many as there may be; then there are no codes. */
+static void fitting_wafers(struct input *in)
+{
+    uint32_t i;
+    in->codes_length = 0;
+    in->wafers = below(3) ? below(4) : below(HM_WAFERS + 1);
+    for (i = 0; i < in->wafers; i++) {
+        in->rest.wafers[i].process = some_time();
+        in->rest.wafers[i].handling = some_time();
+    }
+}
+
+/* A time that isn't good, or too many wafers; the clock may be so late that the predicted time has no second. */
+static void odd_wafers(struct input *in)
+{
+    static const uint64_t many[] = {HM_WAFERS + 1, HM_WAFERS + 2, 256, 1ull << 32, 1ull << 63, UINT64_MAX};
+    uint32_t kind = below(4);
+    if (kind == 0) {
+        in->wafers = many[below(sizeof many / sizeof many[0])];
+    } else if (kind == 1) {
+        in->clock = UINT32_MAX - below(SETTING);
+    } else if (in->wafers > 0) {
+        hm_wafer *wafer = &in->rest.wafers[below((uint32_t)in->wafers)];
+        *(kind == 2 ? &wafer->process : &wafer->handling) = odd_time();
+    }
+}
+
 static void odd_codes(struct input *in)
 {
     static const uint32_t lengths[] = {0, 1, 24, 25, 26, 255, 256, 281, LONGEST};
     in->codes_length = below(2) ? lengths[below(sizeof lengths / sizeof lengths[0])] : below(LONGEST + 1);
     if (below(2)) {
-        any_bytes(in->codes, in->codes_length);
+        any_bytes(in->rest.codes, in->codes_length);
     } else {
-        memset(in->codes, HM_CODE_CORRECTLY_OCCUPIED, in->codes_length);
+        memset(in->rest.codes, HM_CODE_CORRECTLY_OCCUPIED, in->codes_length);
     }
 }
 
 /* One part of the input becomes odd. */
 static void one_odd_part(struct input *in)
 {
-    switch (below(7)) {
+    uint32_t part = below(7);
+    if (for_wafers(in) && part != 3) {
+        odd_wafers(in);
+        return;
+    }
+    switch (part) {
     case 0: in->number = below(2) ? odd_number() : (uint32_t)draw(); break;
     case 1: in->port = below(2) ? odd_number() : (uint32_t)draw(); break;
     case 2: in->value = below(2) ? odd_number() : (uint32_t)draw(); break;
@@ -214,7 +276,7 @@ static uint32_t number_for_carrier(const hm_carrier *carrier)
 /* What the prediction of a carrier of this state may be waiting for, in a tool without a buffer. */
 static uint32_t number_for_prediction(const hm_carrier *carrier)
 {
-    static const uint8_t numbers[] = {31, 31, 32, 32, 33, 33, 34};
+    static const uint8_t numbers[] = {31, 31, 32, 33, 33, 34, 35};
     return carrier->accessing == HM_ACCESSING_NOT_ACCESSED ? 0u + HM_INPUT_CLOCK : numbers[below(sizeof numbers)];
 }
 
@@ -258,7 +320,10 @@ static void next_input(struct input *in, const hm_tool *tool)
     fitting_number(in, tool, carrier);
     fitting_codes(in, tool);
     fitting_times(in, tool);
-    if (below(12) == 0) {
+    if (for_wafers(in)) {
+        fitting_wafers(in);
+    }
+    if (below(for_wafers(in) ? 4 : 12) == 0) {
         one_odd_part(in);
     }
     if (below(4) == 0) {

@@ -14,6 +14,15 @@ static void set_up(uint32_t ports, uint32_t places);
 /* When all predicted carriers are ready; Clock brings it, and judges all at once. */
 #define READY_AT 1000
 
+/* As many as there may be; together they take until then. */
+static void most_wafers(void)
+{
+    in.codes_length = 0;
+    for (in.wafers = 0; in.wafers < HM_WAFERS; in.wafers++) {
+        in.rest.wafers[in.wafers].process = in.rest.wafers[in.wafers].handling = READY_AT / (2.0 * HM_WAFERS);
+    }
+}
+
 static void plain_step(uint32_t number, uint32_t port, uint32_t value, uint32_t letter)
 {
     in.number = number;
@@ -25,6 +34,9 @@ static void plain_step(uint32_t number, uint32_t port, uint32_t value, uint32_t 
     fitting_codes(&in, &tool);
     in.clock = number == HM_INPUT_CLOCK ? READY_AT : hm_seconds(&tool.clock);
     in.time = READY_AT;
+    if (number == HM_INPUT_WAFERS) {
+        most_wafers();
+    }
     step();
 }
 
@@ -115,8 +127,18 @@ static void fill_fixed(void)
         plain_step(HM_INPUT_CLOSE, 0, 0, i);
     }
     for (i = 0; i < HM_PORTS; i++) {
-        plain_step(HM_INPUT_PREDICTED_TIME, 0, 0, i);
+        plain_step(i == 0 ? HM_INPUT_WAFERS : HM_INPUT_PREDICTED_TIME, 0, 0, i);
     }
+}
+
+/* A pod whose tag can't be read is rejected in a tool without a buffer: nine reports, the most of any input. */
+static void reject_unknown(void)
+{
+    set_up(HM_PORTS, 0);
+    plain_step(HM_INPUT_LOAD_START, 1, 0, 0);
+    plain_step(HM_INPUT_LOAD_DONE, 1, 0, 0);
+    plain_step(HM_INPUT_ID_READ_FAILED, 1, 0, 0);
+    plain_step(HM_INPUT_CANCEL_CARRIER, 1, 0, 0);
 }
 
 /* Every row with every name, known and not, and every port, to this tool, which is kept in `kept_tool`. */
@@ -139,6 +161,7 @@ static void every_row(hm_tool *kept_tool)
 /* The last of the four is the full one, with a full queue. */
 static void every_row_to_full_tools(hm_tool *kept_tool)
 {
+    reject_unknown();
     fill_fixed();
     every_row(kept_tool);
     fill();

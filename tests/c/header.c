@@ -3,7 +3,7 @@
 
 /* A run can't tell these numbers from each other or doesn't reach them, so they are held against the documents here. */
 HM_HOLDS(limits_of_a_tool, HM_PORTS == 4 && HM_PLACES == 16 && HM_EXPECTED == 16 && HM_RECORDS == 36);
-HM_HOLDS(limits_of_an_input, HM_INPUTS == 34 && HM_SLOTS == 25 && HM_REPORTS == 10 && HM_NAME_BYTES == 16);
+HM_HOLDS(limits_of_an_input, HM_INPUTS == 35 && HM_SLOTS == 25 && HM_REPORTS == 10 && HM_NAME_BYTES == 16);
 HM_HOLDS(records_at_once, HM_RECORDS == HM_EXPECTED + HM_PLACES + HM_PORTS);
 HM_HOLDS(bytes_of_a_name, HM_NAME_BYTE_LEAST == 0x21 && HM_NAME_BYTE_GREATEST == 0x7E);
 HM_HOLDS(bytes_of_a_text, HM_TEXT_BYTES == 32 && HM_BLANK == 0x20 && HM_BLANK < HM_NAME_BYTE_LEAST);
@@ -14,7 +14,9 @@ HM_HOLDS(last_model_of_carriers, HM_MODEL_PREDICTION == 8);
 HM_HOLDS(ends, HM_INPUT_BIND == 1 && HM_INPUT_UNLOAD_FAIL == 26 && HM_REFUSED_PLACE_OR_OPENER_TAKEN == 8);
 HM_HOLDS(inputs_of_the_queue, HM_INPUT_OUT_START == 27 && HM_INPUT_CANCEL_ALL_CARRIER_OUT == 30);
 HM_HOLDS(inputs_with_a_clock, HM_INPUT_CLOCK == 31 && HM_INPUT_PREDICTED_TIME == 32 && HM_INPUT_ESTIMATE == 33);
-HM_HOLDS(last_input, HM_INPUT_NO_PREDICTION == HM_INPUTS && HM_REFUSED_CLOCK_EARLIER == 11);
+HM_HOLDS(last_with_a_time, HM_INPUT_NO_PREDICTION == 34 && HM_REFUSED_CLOCK_EARLIER == 11);
+HM_HOLDS(last_input, HM_INPUT_WAFERS == HM_INPUTS && HM_REFUSED_TIME_OUT_OF_RANGE == 12);
+HM_HOLDS(wafers, HM_WAFERS == 25 && HM_WAFER_PARTS == 1024 && HM_WAFER_SECONDS == 1048576);
 HM_HOLDS(states_before_tp, HM_PREDICTION_DISABLED == 1 && HM_PREDICTION_WAITING_FOR_CARRIER == 2);
 HM_HOLDS(states_with_tp, HM_PREDICTION_WAITING_FOR_PREDICTION == 3 && HM_PREDICTION_PREDICTED == 4);
 HM_HOLDS(states_after_tp, HM_PREDICTION_ABORTED == 5 && HM_PREDICTION_COMPLETED == 6);
@@ -264,11 +266,13 @@ static void refusals(void)
 #define TIMED(number, clock, name, time) \
     hm_time_step(&tool, &reports, (number), (clock), BYTES(name), strlen(name), (time))
 
-/* A fixed buffer tool: the carrier is predicted, late, and away. */
+/* A fixed buffer tool: the carrier is predicted, late, and away. Its wafers are told of to a copy. */
 static void predictions(void)
 {
     static const uint8_t codes[HM_SLOTS] = {HM_CODE_EMPTY};
     const hm_prediction *const own = &tool.predictions[0];
+    const hm_wafer wafers[] = {{90.5, 12.25}, {90.5, 12.25}};
+    hm_tool copy;
 
     CHECK(hm_setup(&tool, 1, 0, 60, HM_SECONDS_GREATEST) == HM_ACCEPTED && hm_seconds(&tool.clock) == 0);
     CHECK(hm_seconds(&tool.setting) == 60 && hm_seconds(&tool.timeout) == 86400);
@@ -283,6 +287,10 @@ static void predictions(void)
     ACCEPTED(HM_INPUT_PROCEED_WITH_CARRIER, 1, 0, "A");
     ACCEPTED(HM_INPUT_ACCESS_START, 0, 0, "A");
     CHECK(own->state == HM_PREDICTION_WAITING_FOR_PREDICTION);
+    copy = tool;
+    CHECK(hm_wafers(&copy, &reports, 1000, BYTES("A"), 1, wafers, 2) == HM_ACCEPTED && reports.count == 0);
+    CHECK(hm_seconds(&copy.clock) == 1000 && hm_seconds(&copy.predictions[0].predicted) == 1206);
+    CHECK(hm_wafers(&copy, &reports, 1000, BYTES("A"), 1, NULL, 0) == HM_REFUSED_CONDITIONS);
     CHECK(TIMED(HM_INPUT_PREDICTED_TIME, 0x01020304, "A", 0x05060708) == HM_ACCEPTED && reports.count == 0);
     CHECK(own->has_predicted == 1 && hm_seconds(&own->predicted) == 0x05060708);
     CHECK(hm_seconds(&tool.clock) == 0x01020304 && tool.clock.bytes[0] == 4 && tool.clock.bytes[3] == 1);

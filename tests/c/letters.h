@@ -68,7 +68,7 @@ static void put_input(struct message *m, const struct input *in)
 
     begin(m, actions[action], in->name, in->name_length, (uint8_t)in->port, attributes);
     if (mapped) {
-        put_map(m, in->codes);
+        put_map(m, in->rest.codes);
         attributes--;
     }
     while (attributes-- > 0) {

@@ -173,7 +173,7 @@ static void some_message(struct message *m, const struct input *in)
 
     begin(m, actions[action], in->name, in->name_length, (uint8_t)in->port, (mapped ? 1u : 0u) + more);
     if (mapped) {
-        put_map(m, in->codes);
+        put_map(m, in->rest.codes);
     }
     if (more != 0 || below(8) == 0) {
         spoil(m);
@@ -247,7 +247,7 @@ static void whole_way(void)
         next_input(&in, &tool);
         some_message(&m, &in);
         met[same_as_step_and_reply(&m)]++;
-        hm_step(&tool, &reports, in.number, in.port, in.value, in.name, in.name_length, in.codes, in.codes_length);
+        hm_step(&tool, &reports, in.number, in.port, in.value, in.name, in.name_length, in.rest.codes, in.codes_length);
     }
     for (i = 0; i < sizeof wanted; i++) {
         CHECK(met[wanted[i]] > 0);

@@ -23,7 +23,8 @@ struct painted {
 };
 
 static struct painted for_step = {"hm_step", NULL, NULL};
-static struct painted for_time_step = {"hm_time_step", NULL, NULL};
+static struct painted for_timed = {"hm_time_step", NULL, NULL};
+static struct painted for_wafers_step = {"hm_wafers_step", NULL, NULL};
 static struct painted for_setup = {"hm_setup", NULL, NULL};
 static struct painted for_sound = {"hm_sound", NULL, NULL};
 static struct painted for_name = {"hm_name", NULL, NULL};
@@ -33,8 +34,9 @@ static struct painted for_secs_at = {"hm_secs_at", NULL, NULL};
 static struct painted for_exchange = {"hm_secs_exchange", NULL, NULL};
 static struct painted for_reply = {"hm_reply", NULL, NULL};
 static struct painted for_judge = {"hm_judge", NULL, NULL};
-static struct painted *const all[] = {&for_step, &for_time_step, &for_setup, &for_sound, &for_name, &for_waiting,
-                                      &for_secs_step, &for_secs_at, &for_exchange, &for_reply, &for_judge};
+static struct painted *const all[] = {&for_step, &for_timed, &for_wafers_step, &for_setup, &for_sound, &for_name,
+                                      &for_waiting, &for_secs_step, &for_secs_at, &for_exchange, &for_reply,
+                                      &for_judge};
 
 #define FUNCTIONS (sizeof all / sizeof all[0])
 
@@ -75,13 +77,19 @@ static void prepare(struct painted *p)
 static void call_step(void)
 {
     for_step.frame = (const char *)__builtin_frame_address(0);
-    answer = hm_step(&tool, &reports, in.number, in.port, in.value, in.name, in.name_length, in.codes, in.codes_length);
+    answer = hm_step(&tool, &reports, in.number, in.port, in.value, in.name, in.name_length, in.rest.codes, in.codes_length);
 }
 
 static void call_time_step(void)
 {
-    for_time_step.frame = (const char *)__builtin_frame_address(0);
+    for_timed.frame = (const char *)__builtin_frame_address(0);
     answer = hm_time_step(&tool, &reports, in.number, in.clock, in.name, in.name_length, in.time);
+}
+
+static void call_wafers_step(void)
+{
+    for_wafers_step.frame = (const char *)__builtin_frame_address(0);
+    answer = hm_wafers(&tool, &reports, in.clock, in.name, in.name_length, in.rest.wafers, in.wafers);
 }
 
 static void call_setup(void)
@@ -173,8 +181,10 @@ static void set_up(uint32_t ports, uint32_t places)
 static void step(void)
 {
     unsigned before = tool.count;
-    if (brings_clock(&in)) {
-        run_on(&for_time_step, call_time_step);
+    if (for_time_step(&in)) {
+        run_on(&for_timed, call_time_step);
+    } else if (for_wafers(&in)) {
+        run_on(&for_wafers_step, call_wafers_step);
     } else {
         run_on(&for_step, call_step);
     }
@@ -210,7 +220,7 @@ static void put_entry(void)
 
     put(input, sizeof input);
     put(in.name, in.name_length);
-    put(in.codes_length == HM_SLOTS ? in.codes : codes, in.number == HM_INPUT_SLOT_MAP ? HM_SLOTS : 0);
+    put(in.codes_length == HM_SLOTS ? in.rest.codes : codes, in.number == HM_INPUT_SLOT_MAP ? HM_SLOTS : 0);
     put(shown, sizeof shown);
     for (i = 0; i < reports.count; i++) {
         const hm_report *r = &reports.items[i];
@@ -263,7 +273,7 @@ static void secs_step(void)
         for (lists = HM_SECS_DEPTH - 3; lists <= HM_SECS_DEPTH - 2; lists++) {
             begin(&message, actions[action], in.name, in.name_length, (uint8_t)in.port, mapped ? 2 : 1);
             if (mapped) {
-                put_map(&message, in.codes);
+                put_map(&message, in.rest.codes);
             }
             put_nested(lists);
             run_on(&for_secs_step, call_secs_step);
