@@ -142,22 +142,30 @@ static void inputs_of_every_length(hm_tool *tool, hm_reports *reports)
     }
 }
 
+/* A carrier of this name is IN ACCESS. */
+static void visit(hm_tool *tool, hm_reports *reports, const uint8_t *name, uint8_t bytes)
+{
+    static const uint8_t inputs[] = {HM_INPUT_LOAD_START, HM_INPUT_LOAD_DONE, HM_INPUT_ID_READ,
+                                     HM_INPUT_PROCEED_WITH_CARRIER, HM_INPUT_OPEN, HM_INPUT_SLOT_MAP,
+                                     HM_INPUT_PROCEED_WITH_CARRIER, HM_INPUT_ACCESS_START};
+    static const uint8_t codes[HM_SLOTS] = {HM_CODE_EMPTY};
+    uint8_t i;
+
+    check(hm_setup(tool, 1, 0, SETTING, TIMEOUT) == HM_ACCEPTED, "set up");
+    for (i = 0; i < sizeof inputs; i++) {
+        check(hm_step(tool, reports, inputs[i], 1, 0, name, bytes, codes, HM_SLOTS) == HM_ACCEPTED, "a visit");
+    }
+}
+
 /* A time after a length of 64 bits and one before it, of an accepted input, with names of every length. */
 static void times_of_every_length(hm_tool *tool, hm_reports *reports)
 {
-    static const uint8_t visit[] = {HM_INPUT_LOAD_START, HM_INPUT_LOAD_DONE, HM_INPUT_ID_READ,
-                                    HM_INPUT_PROCEED_WITH_CARRIER, HM_INPUT_OPEN, HM_INPUT_SLOT_MAP,
-                                    HM_INPUT_PROCEED_WITH_CARRIER, HM_INPUT_ACCESS_START};
-    static const uint8_t codes[HM_SLOTS] = {HM_CODE_EMPTY};
     const uint32_t clock = 0x01020304, time = 0xF5060708;
-    uint8_t name[HM_NAME_BYTES], bytes, i;
+    uint8_t name[HM_NAME_BYTES], bytes;
 
     memset(name, 'T', sizeof name);
     for (bytes = 1; bytes <= sizeof name; bytes++) {
-        check(hm_setup(tool, 1, 0, SETTING, TIMEOUT) == HM_ACCEPTED, "set up");
-        for (i = 0; i < sizeof visit; i++) {
-            check(hm_step(tool, reports, visit[i], 1, 0, name, bytes, codes, HM_SLOTS) == HM_ACCEPTED, "a visit");
-        }
+        visit(tool, reports, name, bytes);
         check(hm_seconds(&tool->setting) == SETTING && hm_seconds(&tool->timeout) == TIMEOUT, "the set-up's times");
         garbage();
         check(hm_time_step(tool, reports, HM_INPUT_PREDICTED_TIME, clock, name, bytes, time) == HM_ACCEPTED, "a Tp");
@@ -168,11 +176,43 @@ static void times_of_every_length(hm_tool *tool, hm_reports *reports)
     }
 }
 
+/* Two lengths of 64 bits, a pointer between them: every number of wafers, of doubles, and some that wrap in 32 bits. */
+static void wafers_of_every_number(hm_tool *tool, hm_reports *reports)
+{
+    static const uint8_t name[] = {'W', 'A', 'F', 'E', 'R', 'S'};
+    const uint32_t clock = 0x01020304;
+    uint8_t count;
+
+    for (count = 0; count < HM_WAFERS; count++) {
+        in.rest.wafers[count].process = 256.25;
+        in.rest.wafers[count].handling = 0.5;
+    }
+    for (count = 0; count <= 2 * HM_WAFERS + 2; count++) {
+        const int good = count <= 2 * HM_WAFERS && count % 2 == 0;
+        const uint32_t tp = clock + (count / 2 * 1027u + 3) / 4; /* 256.75 seconds each */
+        const double *times = &in.rest.wafers[0].process;
+        visit(tool, reports, name, sizeof name);
+        garbage();
+        check(hm_wafers_step(tool, reports, clock, name, sizeof name, times, count) == (good ? 0u : 1u), "so many");
+        check(hm_seconds(&tool->predictions[0].predicted) == (good ? tp : 0), "what they come to");
+    }
+    visit(tool, reports, name, sizeof name);
+    garbage();
+    check(hm_wafers(tool, reports, clock, name, sizeof name, in.rest.wafers, (1ull << 32) + 1) == 1, "far too many");
+    garbage();
+    check(hm_wafers_step(tool, reports, clock, name, sizeof name, &in.rest.wafers[0].process, (1ull << 32) + 2) == 1,
+          "far too many doubles");
+}
+
 static uint32_t give(hm_tool *tool, hm_reports *reports, const uint8_t *name, const uint8_t *codes)
 {
-    return brings_clock(&in)
-               ? hm_time_step(tool, reports, in.number, in.clock, name, in.name_length, in.time)
-               : hm_step(tool, reports, in.number, in.port, in.value, name, in.name_length, codes, in.codes_length);
+    if (for_time_step(&in)) {
+        return hm_time_step(tool, reports, in.number, in.clock, name, in.name_length, in.time);
+    }
+    if (for_wafers(&in)) {
+        return hm_wafers(tool, reports, in.clock, name, in.name_length, in.rest.wafers, in.wafers);
+    }
+    return hm_step(tool, reports, in.number, in.port, in.value, name, in.name_length, codes, in.codes_length);
 }
 
 /* What a call is lent, at any distance from a multiple of eight. */
@@ -190,8 +230,8 @@ static void at_distance(uint32_t distance, hm_tool *tool, hm_reports *reports)
 
     memcpy(odd_tool, tool, sizeof *tool);
     memcpy(message_room + distance, in.name, in.name_length);
-    memcpy(codes_room + distance, in.codes, in.codes_length);
-    answer = give(tool, reports, in.name, in.codes);
+    memcpy(codes_room + distance, in.rest.codes, in.codes_length);
+    answer = give(tool, reports, in.name, in.rest.codes);
     check(answer == give(odd_tool, odd_reports, message_room + distance, codes_room + distance),
           "the same answer at every alignment");
     check(memcmp(odd_reports, reports, sizeof *reports) == 0, "the same reports at every alignment");
@@ -234,6 +274,7 @@ int main(void)
     waiting_tables(tool.carriers);
     inputs_of_every_length(&tool, &reports);
     times_of_every_length(&tool, &reports);
+    wafers_of_every_number(&tool, &reports);
     cut_messages(&tool, &reports);
     check(hm_tool_size() == sizeof tool && hm_reports_size() == sizeof reports, "sizes");
     every_alignment(&tool, &reports);

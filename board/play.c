@@ -45,12 +45,17 @@ CALLER caller_of_hm_setup(void)
 
 CALLER caller_of_hm_step(void)
 {
-    answer = hm_step(&tool, &reports, in.number, in.port, in.value, in.name, in.name_length, in.codes, in.codes_length);
+    answer = hm_step(&tool, &reports, in.number, in.port, in.value, in.name, in.name_length, in.rest.codes, in.codes_length);
 }
 
 CALLER caller_of_hm_time_step(void)
 {
     answer = hm_time_step(&tool, &reports, in.number, in.clock, in.name, in.name_length, in.time);
+}
+
+CALLER caller_of_hm_wafers_step(void)
+{
+    answer = hm_wafers(&tool, &reports, in.clock, in.name, in.name_length, in.rest.wafers, in.wafers);
 }
 
 CALLER caller_of_hm_secs_step(void)
@@ -84,6 +89,7 @@ static struct function {
     uint32_t calls, stack;
 } functions[] = {{"hm_step", caller_of_hm_step, 0, 0},
                  {"hm_time_step", caller_of_hm_time_step, 0, 0},
+                 {"hm_wafers_step", caller_of_hm_wafers_step, 0, 0},
                  {"hm_secs_step", caller_of_hm_secs_step, 0, 0},
                  {"hm_sound", caller_of_hm_sound, 0, 0},
                  {"hm_secs_at", caller_of_hm_secs_at, 0, 0},
@@ -93,7 +99,7 @@ static struct function {
 
 #define FUNCTIONS (sizeof functions / sizeof functions[0])
 
-enum { STEP, TIME_STEP, SECS_STEP, SOUND, SECS_AT, SETUP, WAITING, NAME };
+enum { STEP, TIME_STEP, WAFERS_STEP, SECS_STEP, SOUND, SECS_AT, SETUP, WAITING, NAME };
 
 /* Calls the function; the answer goes into the digest. */
 static void run(struct function *f)
@@ -148,7 +154,11 @@ static void add_input(void)
     add(&given, in.clock);
     add(&given, in.time);
     add_all(&given, in.name, in.name_length);
-    add_all(&given, in.codes, in.codes_length);
+    add_all(&given, in.rest.codes, in.codes_length);
+    if (for_wafers(&in)) {
+        add(&given, (uint32_t)in.wafers);
+        add_all(&given, in.rest.wafers, in.wafers <= HM_WAFERS ? (uint32_t)in.wafers * sizeof in.rest.wafers[0] : 0);
+    }
 }
 
 /* Gives the input `in` to the tool. */
@@ -157,7 +167,7 @@ static void step(void)
     inputs++;
     add_input();
     memset(&reports, 0xA5, sizeof reports); /* what stood there before must be gone */
-    run(&functions[brings_clock(&in) ? TIME_STEP : STEP]);
+    run(&functions[for_time_step(&in) ? TIME_STEP : for_wafers(&in) ? WAFERS_STEP : STEP]);
     accepted_rows[answer == HM_ACCEPTED && in.number <= HM_INPUTS ? in.number : 0]++;
     note();
 }
@@ -271,7 +281,7 @@ static int print_answers(void)
     uint32_t i, all = 1;
 
     for (i = 0; i <= HM_REFUSED_SHAPE_OR_ACTION; i++) {
-        if (i <= HM_REFUSED_CLOCK_EARLIER || i >= HM_REFUSED_CUT_SHORT) {
+        if (i <= HM_REFUSED_TIME_OUT_OF_RANGE || i >= HM_REFUSED_CUT_SHORT) {
             put_words(i == 0 ? "answers " : ", ");
             put_number(i);
             put_words(": ");

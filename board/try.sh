@@ -153,12 +153,12 @@ try_instructions() {
     run counted -plugin "$plugins/count.so,$functions" -d plugin -D "$dir/counts" ||
         fail "$1" "the counted firmware failed"
     awk -v swept="$swept" '
-        { calls[$1]++; step = $1 == "hm_step" || $1 == "hm_time_step"; steps += step }
+        { calls[$1]++; step = $1 ~ /^hm_(time_|wafers_)?step$/; steps += step }
         !step || steps > swept { sum[$1] += $2; summed[$1]++ }
         $2 > most[$1] { most[$1] = $2 }
         END { for (f in calls) printf "  instructions of %s: mean %.0f, most %d\n", f, sum[f] / summed[f], most[f] }
     ' "$dir/counts" | sort
-    [ "$(grep -Ec '^hm_(time_)?step ' "$dir/counts")" -eq $((swept + 20000)) ] ||
+    [ "$(grep -Ec '^hm_(time_|wafers_)?step ' "$dir/counts")" -eq $((swept + 20000)) ] ||
         fail "$1" "calls were missed in counting"
 }
 

@@ -273,11 +273,18 @@ static uint32_t number_for_carrier(const hm_carrier *carrier)
     return HM_INPUT_CARRIER_IN;
 }
 
-/* What the prediction of a carrier of this state may be waiting for, in a tool without a buffer. */
-static uint32_t number_for_prediction(const hm_carrier *carrier)
+/* What a prediction of this state may be waiting for, in a tool without a buffer. */
+static uint32_t number_for_prediction(const hm_prediction *own)
 {
+    static const uint8_t awaited[] = {31, 32, 34, 35, 35, 35};
     static const uint8_t numbers[] = {31, 31, 32, 33, 33, 34, 35};
-    return carrier->accessing == HM_ACCESSING_NOT_ACCESSED ? 0u + HM_INPUT_CLOCK : numbers[below(sizeof numbers)];
+    if (own->state == HM_PREDICTION_WAITING_FOR_CARRIER) {
+        return HM_INPUT_CLOCK;
+    }
+    if (own->state == HM_PREDICTION_WAITING_FOR_PREDICTION && !own->has_predicted) {
+        return awaited[below(sizeof awaited)];
+    }
+    return numbers[below(sizeof numbers)];
 }
 
 /* An input that a carrier or a port of this tool may be waiting for, and some that none waits for. */
@@ -288,7 +295,7 @@ static void fitting_number(struct input *in, const hm_tool *tool, const hm_carri
         in->number = 1 + below(HM_INPUTS);
     } else if (kind == 4 && tool->places == 0 && carrier != NULL) {
         known_name(in, carrier);
-        in->number = number_for_prediction(carrier);
+        in->number = number_for_prediction(&tool->predictions[carrier - tool->carriers]);
     } else if (kind == 1 || (filling && kind == 2)) {
         in->number = HM_INPUT_CARRIER_NOTIFICATION;
     } else if (kind <= 4 && carrier != NULL) {
