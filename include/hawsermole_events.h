@@ -18,7 +18,7 @@ typedef struct hm_event {
     uint8_t events[3]; /* those of them that want a collection event; zeros after the last */
 } hm_event;
 
-#define HM_EVENTS 121
+#define HM_EVENTS 126
 
 /* Every report that a run can give, HM_EVENTS of them. */
 static inline const hm_event *hm_events(void)
@@ -145,6 +145,11 @@ static inline const hm_event *hm_events(void)
         {34, 8, 4, 5, 7, {28, 0, 0}, {28, 0, 0}}, /* NoPrediction */
         {34, 8, 4, 6, 7, {25, 0, 0}, {25, 0, 0}}, /* NoPrediction */
         {34, 8, 5, 6, 7, {29, 0, 0}, {29, 0, 0}}, /* NoPrediction */
+        {35, 8, 3, 4, 7, {24, 0, 0}, {24, 0, 0}}, /* Wafers */
+        {35, 8, 3, 5, 7, {27, 0, 0}, {27, 0, 0}}, /* Wafers */
+        {35, 8, 4, 5, 7, {28, 0, 0}, {28, 0, 0}}, /* Wafers */
+        {35, 8, 4, 6, 7, {25, 0, 0}, {25, 0, 0}}, /* Wafers */
+        {35, 8, 5, 6, 7, {29, 0, 0}, {29, 0, 0}}, /* Wafers */
     };
     return events;
 }

@@ -24,6 +24,7 @@ fn first_thing(refusal: Refusal) -> &'static str {
         Refusal::QueueFull => "nothing: it is one of the 16 that are queued",
         Refusal::QueuedAlready => "nothing; for another port CancelCarrierOut first",
         Refusal::ClockEarlier => "send the time as it is; a clock set back: go on from the last accepted",
+        Refusal::TimeOutOfRange => "send whole 1/1024ths of a second, from 0 to less than 1,048,576",
         Refusal::RoomTooSmall => "lend 95 bytes of room, and take the message again",
         Refusal::CutShort => "bytes lost, or a length that is too large",
         Refusal::UnknownCode => "JIS-8, or another text format",
@@ -107,10 +108,11 @@ mod tests {
             "\n| 10 | CarrierOut is queued already | nothing;",
             "\n| 8 ready to unload prediction status | carrier | 0 no record, 1 DISABLED, 2 WAITING FOR CARRIER, ",
             "\n| 11 | the clock is earlier than the last accepted |",
-            "30 CancelAllCarrierOut, 31 Clock, 32 PredictedTime, 33 Estimate, 34 NoPrediction.",
+            "\n| 12 | a time of a wafer is out of range, or the predicted time is past the clock's range |",
+            "30 CancelAllCarrierOut, 31 Clock, 32 PredictedTime, 33 Estimate, 34 NoPrediction, 35 Wafers.",
         ] {
             assert!(card.contains(part), "{part}\n{card}");
         }
-        assert_eq!(card.lines().filter(|line| line.starts_with("| ")).count(), 1 + 19 + 1 + 8);
+        assert_eq!(card.lines().filter(|line| line.starts_with("| ")).count(), 1 + 20 + 1 + 8);
     }
 }

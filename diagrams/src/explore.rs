@@ -7,7 +7,7 @@
 //! again, so the search ends by itself. Nothing is predicted in these tools: a second search has [`TIMES`], and meets
 //! what becomes of predictions.
 use crate::subject::{request_of, Subject};
-use hawsermole::{Argument, Input, Model, Parts, Reports, Row, Tool, ROWS, TOOL_BYTES};
+use hawsermole::{Argument, Input, Model, Parts, Reports, Row, Tool, Wafer, ROWS, TOOL_BYTES};
 use std::collections::{BTreeMap, BTreeSet, HashSet, VecDeque};
 
 /// Ports and buffer places. One port and two names meet all that needs two carriers: a name that isn't the one
@@ -23,14 +23,23 @@ pub struct Times {
     pub clocks: &'static [u32],
     pub tp: &'static [u32],
     pub te: &'static [u32],
+    pub wafers: &'static [&'static [Wafer]],
 }
 
 /// No clock goes on, and nothing is predicted.
-const STILL: Times = Times { setting: 0, timeout: 0, clocks: &[0], tp: &[0], te: &[0] };
+const STILL: Times = Times { setting: 0, timeout: 0, clocks: &[0], tp: &[0], te: &[0], wafers: &[&[]] };
 
 /// Of two predicted times one is near at first, and one is near at 3 and late at 6, where nothing is estimated; of two
-/// estimates one is always late, and one never. So each is PREDICTED and ABORTED by every input that can do it.
-pub const TIMES: Times = Times { setting: 1, timeout: 2, clocks: &[0, 3, 6], tp: &[1, 4], te: &[1, 9] };
+/// estimates one is always late, and one never. So each is PREDICTED and ABORTED by every input that can do it. Wafers
+/// give such times, too: their carrier is never late at once, since none of its wafers has a time before now.
+pub const TIMES: Times = Times {
+    setting: 1,
+    timeout: 2,
+    clocks: &[0, 3, 6],
+    tp: &[1, 4],
+    te: &[1, 9],
+    wafers: &[&[Wafer { process: 0.5, handling: 0.25 }], &[Wafer { process: 2.0, handling: 2.0 }]],
+};
 
 const NO_NAME: &[u8] = b"";
 const NO_MAP: &[u8] = b"";
@@ -233,6 +242,7 @@ fn of_time<'a>(parts: &Parts<'a>, argument: Argument, times: &Times) -> Option<V
         Argument::Clock => Some(times.clocks.iter().map(|&clock| Parts { clock, ..*parts }).collect()),
         Argument::Tp => Some(times.tp.iter().map(time).collect()),
         Argument::Te => Some(times.te.iter().map(time).collect()),
+        Argument::Wafers => Some(times.wafers.iter().map(|&wafers| Parts { wafers, ..*parts }).collect()),
         _ => None,
     }
 }
@@ -259,6 +269,6 @@ fn with<'a>(
         Argument::Place => (1..=places).map(value).collect(),
         Argument::Codes => vec![codes(MAP)],
         Argument::MapOrNone => [NO_MAP, MAP].map(codes).into(),
-        Argument::Clock | Argument::Tp | Argument::Te => vec![*parts],
+        Argument::Clock | Argument::Tp | Argument::Te | Argument::Wafers => vec![*parts],
     }
 }

@@ -1,5 +1,6 @@
 //! What the search finds is what document 01's rows say, row by row, row 20 with the expected map of request P1, rows 7
-//! and 27 to 30 with the queue of request P5, and model 8 and rows 31 to 34 of request P7, and nothing else.
+//! and 27 to 30 with the queue of request P5, model 8 and rows 31 to 34 of request P7, row 35 of request P8, and nothing
+//! else.
 use diagrams::explore::{explore, Found, Kinds};
 use diagrams::subject::Subject;
 use hawsermole::Model;
@@ -10,7 +11,7 @@ static FOUND: LazyLock<Found> = LazyLock::new(explore);
 
 /// The changes that each row brings to a tool that runs reach, as `model old>new`, those of a request as `out old>new`;
 /// rows that bring none are left out (LoadDone, Open).
-const ROWS: [(u32, &str); 32] = [
+const ROWS: [(u32, &str); 33] = [
     (1, "3 0>1, 4 0>1, 5 0>1, 6 0>1, 7 0>1, 8 0>2"),
     (2, "3 1>0, 4 1>0, 5 1>0, 6 1>0, 7 1>0, 8 2>0"),
     (3, "5 0>1, 6 0>1, 7 0>1, 8 0>2"),
@@ -51,6 +52,7 @@ const ROWS: [(u32, &str); 32] = [
     (32, JUDGED),
     (33, JUDGED),
     (34, JUDGED),
+    (35, JUDGED),
 ];
 
 /// Each input that brings the clock judges all carriers, and completes those whose port is READY TO UNLOAD.

@@ -4,7 +4,7 @@ use crate::Model;
 
 /// Every report that a run can give, by input and then by model.
 #[rustfmt::skip]
-pub const EVENTS: [Event; 121] = [
+pub const EVENTS: [Event; 126] = [
     event(1, Model::Reservation, 0, 1, &[2], &[2], ""),
     event(1, Model::Tie, 0, 1, &[2], &[2], ""),
     event(1, Model::Id, 0, 1, &[1, 2], &[2], "#1 requires no event"),
@@ -126,4 +126,9 @@ pub const EVENTS: [Event; 121] = [
     event(34, Model::Prediction, 4, 5, &[28], &[28], ""),
     event(34, Model::Prediction, 4, 6, &[25], &[25], ""),
     event(34, Model::Prediction, 5, 6, &[29], &[29], ""),
+    event(35, Model::Prediction, 3, 4, &[24], &[24], ""),
+    event(35, Model::Prediction, 3, 5, &[27], &[27], "late before it is PREDICTED (10.7.8.5)"),
+    event(35, Model::Prediction, 4, 5, &[28], &[28], ""),
+    event(35, Model::Prediction, 4, 6, &[25], &[25], ""),
+    event(35, Model::Prediction, 5, 6, &[29], &[29], ""),
 ];
