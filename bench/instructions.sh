@@ -1,8 +1,9 @@
 #!/usr/bin/env bash
 # Instructions of one input to the proved machine (one call of hm_step, all that it calls included):
 # the mean over a mix, the worst input, and how both grow with the number of live carriers; those of an input that brings
-# the clock, hm_time_step; those of the name check, hm_name, for texts of some lengths; those of one frame of a panel, hm_waiting; and those of the bridge, hm_secs_step,
-# for messages of some kinds.
+# the clock, hm_time_step, and of one that brings wafers, hm_wafers_step; those of the name check, hm_name, for texts of
+# some lengths; those of one frame of a panel, hm_waiting; and those of the bridge, hm_secs_step, for messages of some
+# kinds.
 #
 #   bench/instructions.sh [PROGRAM]    the release build of this folder; target/release/bench if none is given
 #
@@ -11,7 +12,7 @@
 set -euo pipefail
 here=$(cd "$(dirname "$0")" && pwd)
 program=${1:-$here/target/${CARGO_BUILD_TARGET:+$CARGO_BUILD_TARGET/}release/bench}
-rows=34
+rows=35
 function=hm_step
 work=$(mktemp -d)
 trap 'rm -rf "$work"' EXIT
@@ -69,7 +70,8 @@ print_mean() {
 worst_of() { sort -n "$1" | tail -n 1; }
 
 # Rows 1 to 3, 11, 12, 18, 27 and 28 can't be accepted with 36 records, so fewer are tried as well; row 30 is never
-# refused. The row that takes the most is then searched further. Rows from 31 on are hm_time_step's.
+# refused. The row that takes the most is then searched further. Rows from 31 on are hm_time_step's and
+# hm_wafers_step's.
 print_worst() {
     local carriers row
     for carriers in 32 33 34 35 36; do
@@ -113,22 +115,23 @@ print_growth() {
     done
 }
 
-print_timed() {
-    local carriers row function=hm_time_step
+# print_clocked WHAT FUNCTION FIRST LAST WORDS
+print_clocked() {
+    local carriers function=$2
     for carriers in 4 20; do
-        counted timed 400 "$carriers"
-    done >"$work/timed"
+        counted "$1" 400 "$carriers"
+    done >"$work/clocked"
     echo
-    echo "an input that brings the clock, without a buffer, 4 and 20 live carriers, $(wc -l <"$work/timed") states"
-    awk '
+    echo "an input that brings $5, without a buffer, 4 and 20 live carriers, $(wc -l <"$work/clocked") states"
+    awk -v first="$3" -v last="$4" '
         { kind = $4 == 0 ? "accepted" : "refused"; sum[$3, kind] += $1; count[$3, kind]++ }
         $1 > top[$3, kind] { top[$3, kind] = $1 }
         END {
             printf "  %3s %9s %9s %9s %9s\n", "row", "accepted,", "most", "refused,", "most"
-            for (row = 31; row <= 34; row++)
+            for (row = first; row <= last; row++)
                 printf "  %3d %9.0f %9s %9.0f %9s\n", row, sum[row, "accepted"] / count[row, "accepted"],
                     top[row, "accepted"], sum[row, "refused"] / count[row, "refused"], top[row, "refused"]
-        }' "$work/timed"
+        }' "$work/clocked"
 }
 
 print_names() {
@@ -171,7 +174,8 @@ choose_counter
 print_mean
 print_worst
 print_growth
-print_timed
+print_clocked timed hm_time_step 31 34 'the clock'
+print_clocked wafers hm_wafers_step 35 35 'the clock and wafers'
 print_names
 print_frame
 print_messages

@@ -19,6 +19,7 @@ usage: bench time [N [ROUNDS]]         time per message and frame, entries of a 
        bench play N CARRIERS INPUT     plays one input, by its document 01 name or number, from N prepared states
        bench search N CARRIERS         plays every row in turn, accepted and refused, from N prepared states
        bench timed N CARRIERS          plays the inputs that bring the clock in turn, from N prepared states
+       bench wafers N CARRIERS         plays wafers from N prepared states
        bench unsound N CARRIERS        plays every row in turn from N states that aren't sound
        bench names                     gives texts of some lengths to the name check
        bench frame                     asks whether anyone waits, of 36 records: none does, and the first does
@@ -41,6 +42,7 @@ fn run(words: &[&str]) -> Option<Result<(), String>> {
         ["play", n, c, input] => play::one_row(play::row_of(input)?, count(n)?, carriers(c)?),
         ["search", n, c] => play::search(count(n)?, carriers(c)?),
         ["timed", n, c] => play::timed(count(n)?, carriers(c)?),
+        ["wafers", n, c] => play::wafers(count(n)?, carriers(c)?),
         ["names"] => play::names(),
         ["messages"] => messages::play(),
         ["unsound", n, c] => play::unsound(count(n)?, carriers(c)?),

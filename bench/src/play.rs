@@ -1,7 +1,7 @@
 //! Inputs played to the proved machine alone, for what counts instructions. Each call of `hm_step` prints a line,
 //! `CARRIERS NUMBER ANSWER NAMES PORT VALUE NAME CODES`, where CODES is how many there were; each of `hm_time_step`,
-//! where those are played, `CARRIERS NUMBER ANSWER REPORTS`; each of `hm_name` `BYTES NAME KIND`, where NAME is how many
-//! bytes the name has.
+//! where those are played, `CARRIERS NUMBER ANSWER REPORTS`; each of `hm_wafers_step` `CARRIERS NUMBER ANSWER WAFERS`;
+//! each of `hm_name` `BYTES NAME KIND`, where NAME is how many bytes the name has.
 
 use hawsermole::{Row, ROWS};
 use independent::gen::{Input, Rng};
@@ -86,6 +86,18 @@ pub fn timed(count: usize, carriers: usize) {
         let (mut next, mut reports) = (state, Reports::NONE);
         let answer = caller_of_hm_time_step(&mut next, i.number, i.clock, &i.name, i.time, &mut reports);
         println!("{} {} {answer} {}", state.base.count, i.number, reports.as_slice().len());
+    }
+}
+
+/// Wafers, accepted and refused, each from another prepared state.
+pub fn wafers(count: usize, carriers: usize) {
+    let mut rng = Rng::new(35);
+    for k in 0..count {
+        let family = k / 2 % FAMILIES.len();
+        let (state, i) = prepared(carriers, family, WAFERS, k % 2 == 0, &mut rng);
+        let (mut next, mut reports) = (state, Reports::NONE);
+        let answer = caller_of_hm_wafers_step(&mut next, i.clock, &i.name, &i.times(), &mut reports);
+        println!("{} {} {answer} {}", state.base.count, i.number, i.wafers.len() / 2);
     }
 }
 
