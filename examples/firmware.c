@@ -117,12 +117,22 @@ static int feed_time(const char *text, uint32_t number, uint32_t clock, const ch
     return answered(text, hm_time_step(&tool, &reports, number, clock, (const uint8_t *)name, strlen(name), time));
 }
 
-/* The recipe of AD is known to end at 1100: a minute before, the host may send a vehicle. */
+/*
+ * The process module knows its recipe: three and a half seconds for each wafer of AD, and half a second to and fro. So
+ * AD is ready at 1100, and a minute before, the host may send a vehicle.
+ */
 static void predict(void)
 {
+    hm_wafer recipe[HM_WAFERS];
     const hm_prediction *prediction;
+    unsigned i;
 
-    feed_time("PredictedTime(1000, AD, 1100)", HM_INPUT_PREDICTED_TIME, 1000, "AD", 1100);
+    for (i = 0; i < HM_WAFERS; i++) {
+        recipe[i].process = 3.5;
+        recipe[i].handling = 0.5;
+    }
+    answered("Wafers(1000, AD, 25 wafers)",
+             hm_wafers(&tool, &reports, 1000, (const uint8_t *)"AD", 2, recipe, HM_WAFERS));
     feed_time("Clock(1039)", HM_INPUT_CLOCK, 1039, "", 0);
     feed_time("Clock(1040)", HM_INPUT_CLOCK, 1040, "", 0);
     prediction = hm_find_prediction(&tool, (const uint8_t *)"AD", 2);
