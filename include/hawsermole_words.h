@@ -31,7 +31,7 @@ static inline const char *hm_answer_text(uint32_t answer)
         "the queue for CarrierOut is full",
         "CarrierOut is queued already",
         "the clock is earlier than the last accepted",
-        "a time of a wafer is out of range, or the predicted time is past the clock's range",
+        "a wafer's time or the predicted time is out of range",
     };
     static const char *const of_message[] = {
         "the message is cut short",

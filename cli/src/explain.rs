@@ -403,8 +403,8 @@ mod tests {
         let mut sent =
             |wafers: &[Wafer]| explained(&mut tool, Input::Wafers { clock: 9, name: b"A", wafers });
         let odd = sent(&[Wafer { process: 0.1, handling: 0.0 }]);
-        let because = "  refused, 12: a time of a wafer is out of range, or the predicted time is past the \
-                       clock's range\n  because a time of a wafer is out of range: process time of wafer 1 is \
+        let because = "  refused, 12: a wafer's time or the predicted time is out of range\n  \
+                       because a time of a wafer is out of range: process time of wafer 1 is \
                        0.1, between the good ones 0.099609375 and 0.1005859375\n  next: send whole 1/1024ths";
         assert!(odd.contains(because), "{odd}");
         let expected =

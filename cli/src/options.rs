@@ -161,6 +161,9 @@ Inputs by name, with names as text:
 
 const HELP_END: &str = "
 
+There are none to 25 wafers, and each of their times is a whole multiple of 1/1024, from 0 to less than
+1048576; a decimal is taken for the f64 that is nearest to it.
+
 A PORT of 0 and a NAME of - mean \"not given\". Names may be any text: the machine drops blanks at the
 end, up to 32 bytes in all, and refuses what no carrier can be called. A name that holds a blank, or is
 a single -, is sent with in.
@@ -279,7 +282,7 @@ mod tests {
         assert!(help.contains("\n  11  the clock is earlier than the last accepted\n"));
         assert!(help.contains("\n  PredictedTime CLOCK NAME TP "));
         assert!(help.contains("\n  Wafers CLOCK NAME [WAFER..] "));
-        assert!(help.contains("\n  12  a time of a wafer is out of range, or"));
+        assert!(help.contains("\n  12  a wafer's time or the predicted time is out of range\n"));
         assert!(help.contains("\n  26  another shape or action\n"));
         assert!(help.ends_with("\n  29  the log is cut short\n"));
     }

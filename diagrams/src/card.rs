@@ -24,7 +24,7 @@ fn first_thing(refusal: Refusal) -> &'static str {
         Refusal::QueueFull => "nothing: it is one of the 16 that are queued",
         Refusal::QueuedAlready => "nothing; for another port CancelCarrierOut first",
         Refusal::ClockEarlier => "send the time as it is; a clock set back: go on from the last accepted",
-        Refusal::TimeOutOfRange => "send whole 1/1024ths of a second, from 0 to less than 1,048,576",
+        Refusal::TimeOutOfRange => "send whole 1/1024ths of a second",
         Refusal::RoomTooSmall => "lend 95 bytes of room, and take the message again",
         Refusal::CutShort => "bytes lost, or a length that is too large",
         Refusal::UnknownCode => "JIS-8, or another text format",
@@ -78,7 +78,7 @@ pub fn card() -> String {
     text += &Model::ALL.map(model_line).concat();
     text += "\nOn the wire (E87.1): transfer 1, 2, 3 are 2, 3, 1 there; models 5 to 8 are one less. \
              A tie 1>1 has passed to another carrier. \
-             PREDICTED from Tp less setting time on, ABORTED from Tp plus timeout on, if a clock is sent.\n\n";
+             PREDICTED at Tp less setting time, ABORTED at Tp plus timeout, if a clock is sent.\n\n";
     text += &format!(
         "Movement: {}. Tag: {}. Place: {}. Request: {}.\n",
         numbered!(Movement),
@@ -108,7 +108,7 @@ mod tests {
             "\n| 10 | CarrierOut is queued already | nothing;",
             "\n| 8 ready to unload prediction status | carrier | 0 no record, 1 DISABLED, 2 WAITING FOR CARRIER, ",
             "\n| 11 | the clock is earlier than the last accepted |",
-            "\n| 12 | a time of a wafer is out of range, or the predicted time is past the clock's range |",
+            "\n| 12 | a wafer's time or the predicted time is out of range |",
             "30 CancelAllCarrierOut, 31 Clock, 32 PredictedTime, 33 Estimate, 34 NoPrediction, 35 Wafers.",
         ] {
             assert!(card.contains(part), "{part}\n{card}");

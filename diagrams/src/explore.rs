@@ -31,7 +31,7 @@ const STILL: Times = Times { setting: 0, timeout: 0, clocks: &[0], tp: &[0], te:
 
 /// Of two predicted times one is near at first, and one is near at 3 and late at 6, where nothing is estimated; of two
 /// estimates one is always late, and one never. So each is PREDICTED and ABORTED by every input that can do it. Wafers
-/// give such times, too: their carrier is never late at once, since none of its wafers has a time before now.
+/// give predicted times, too, and never one before the clock.
 pub const TIMES: Times = Times {
     setting: 1,
     timeout: 2,

@@ -135,9 +135,7 @@ impl Refusal {
             Refusal::QueueFull => "the queue for CarrierOut is full",
             Refusal::QueuedAlready => "CarrierOut is queued already",
             Refusal::ClockEarlier => "the clock is earlier than the last accepted",
-            Refusal::TimeOutOfRange => {
-                "a time of a wafer is out of range, or the predicted time is past the clock's range"
-            }
+            Refusal::TimeOutOfRange => "a wafer's time or the predicted time is out of range",
             Refusal::RoomTooSmall => "the room lent is too small",
             Refusal::CutShort => "the message is cut short",
             Refusal::UnknownCode => "unknown format code",
@@ -189,9 +187,7 @@ mod tests {
         assert_eq!(Refusal::ExpectedFull.to_string(), "16 carriers are expected already");
         assert_eq!(Refusal::QueueFull.to_string(), "the queue for CarrierOut is full");
         assert_eq!(Refusal::ClockEarlier.to_string(), "the clock is earlier than the last accepted");
-        assert!(Refusal::TimeOutOfRange
-            .to_string()
-            .ends_with("the predicted time is past the clock's range"));
+        assert!(Refusal::TimeOutOfRange.to_string().ends_with("or the predicted time is out of range"));
         assert_eq!(Refusal::BytesLeftOver.to_string(), "bytes left over");
         assert_eq!(Refusal::RoomTooSmall.to_string(), "the room lent is too small");
         assert!(Refusal::OutOfRange.to_string().ends_with("or the state isn't sound"));
