@@ -1,6 +1,6 @@
 # Reads a module as text and prints each line that would mean something else where a pointer has 32 bits: a pointer
 # taken as a number or a number as a pointer, a place that holds both or is used in part, an alignment left to the
-# layout, a copy whose length isn't a constant. Exits with 1 where there is one.
+# layout, a copy whose length isn't a constant. Exits with 1 where there is one. The bits of a double are 64 anywhere.
 function bad(why) {
     print "line " NR ", " why ": " $0
     found = 1
@@ -12,6 +12,7 @@ function holds(p, kind) {
 }
 /^define/ { split("", whole); split("", held) }
 !/^  / { next }
+/ = bitcast double [^ ]+ to i64$/ { next }
 / (ptrtoint|inttoptr|bitcast|addrspacecast|asm|volatile|atomic) / { bad("a pointer as a number, or unknown") }
 /^  (%[^ ]+ = )?(load|store|alloca) / && !/, align [0-9]/ { bad("no alignment") }
 /@llvm\.mem/ && !/, i64 [0-9]+, i1 false\)$/ { bad("no constant length") }
