@@ -8,6 +8,7 @@ use follow::blocks::BLOCKS;
 use image::layout::*;
 use image::report::no_reports;
 use secs::request::request_in;
+use ticks::seconds::no_wafers;
 
 pub fn bridge_step(
     m: &mut [[u8; TOOL_BYTES]; BLOCKS],
@@ -20,7 +21,6 @@ pub fn bridge_step(
     ensures { λ r. ⌜ r ≡ bridged (wholeIn (now (m .entry))) (now (message .entry)) .answer ⌝ }
     ensures { λ r. ⌜ now (items .exit) ≡ itemsIn (now (message .entry)) ⌝ }
 {
-    let none = [0.0; 0];
     let q = request_in(message);
     *items = q.count as u32;
     if q.refusal != 0 {
@@ -41,6 +41,6 @@ pub fn bridge_step(
         &codes[..coded],
         0,
         0,
-        &none,
+        no_wafers(),
     )
 }

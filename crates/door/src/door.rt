@@ -3,12 +3,13 @@ ghost use mathlib.Core.Path.{_≡_};
 ghost use Rattle.rules.specs.Seen.{inputOf};
 ghost use Rattle.image.specs.Image.{reportsFrom};
 ghost use Rattle.prediction.specs.State.{timed};
-ghost use Rattle.wafers.specs.Outcome.{brought};
+ghost use Rattle.wafers.specs.Outcome.{bringing};
 ghost use Rattle.tool.specs.Whole.{wholeIn};
 ghost use Rattle.door.specs.Door.{outcome};
 use follow::blocks::BLOCKS;
 use image::layout::*;
 use names::check::shortened_length;
+use ticks::seconds::Sent;
 use tool::whole::whole_step;
 
 pub fn door_step(
@@ -21,14 +22,14 @@ pub fn door_step(
     codes: &[u8],
     clock: u32,
     time: u32,
-    times: &[f64],
+    wafers: Sent,
 ) -> u8
     ensures { λ r. ⌜ wholeIn (now (m .exit)) ≡ outcome (wholeIn (now (m .entry)))
-        (brought (timed (inputOf number port value (now (name .entry)) (now (codes .entry))) clock time) (now (times .entry))) .tool ⌝ }
+        (bringing (timed (inputOf number port value (now (name .entry)) (now (codes .entry))) clock time) wafers) .tool ⌝ }
     ensures { λ r. ⌜ reportsFrom (now (o .exit)) ≡ outcome (wholeIn (now (m .entry)))
-        (brought (timed (inputOf number port value (now (name .entry)) (now (codes .entry))) clock time) (now (times .entry))) .reports ⌝ }
+        (bringing (timed (inputOf number port value (now (name .entry)) (now (codes .entry))) clock time) wafers) .reports ⌝ }
     ensures { λ r. ⌜ r ≡ outcome (wholeIn (now (m .entry)))
-        (brought (timed (inputOf number port value (now (name .entry)) (now (codes .entry))) clock time) (now (times .entry))) .answer ⌝ }
+        (bringing (timed (inputOf number port value (now (name .entry)) (now (codes .entry))) clock time) wafers) .answer ⌝ }
 {
     let n = shortened_length(name);
     whole_step(
@@ -41,6 +42,6 @@ pub fn door_step(
         codes,
         clock,
         time,
-        times,
+        wafers,
     )
 }

@@ -1,3 +1,4 @@
+pub mod Stepped
 pub mod Kept
 pub mod Bytes
 pub mod Called

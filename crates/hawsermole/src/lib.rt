@@ -23,6 +23,8 @@ use model8::facts::is_timed;
 use names::check::name_length;
 use records::carrier::Carrier;
 use replies::reply::reply;
+use ticks::seconds::no_wafers;
+use ticks::seconds::wafers_from;
 use tool::whole::whole_setup;
 use tool::whole::whole_sound;
 use waiting::found::Found;
@@ -93,8 +95,8 @@ pub extern "C" fn hm_step(
     ensures { λ r. ⌜ StepCall (now (tool .entry)) (brought (timed (inputOf number port value (now (name .entry)) (now (codes .entry))) 0 0) [])
         r (now (tool .exit)) (now (reports .exit)) ⌝ }
 {
-    let none = [0.0; 0];
-    let answer = door_step(tool, reports, number, port, value, name, codes, 0, 0, &none);
+    let none = no_wafers();
+    let answer = door_step(tool, reports, number, port, value, name, codes, 0, 0, none);
     answer as u32
 }
 
@@ -112,7 +114,7 @@ pub extern "C" fn hm_time_step(
         r (now (tool .exit)) (now (reports .exit)) ⌝ }
 {
     let none = [0; 0];
-    let untimed = [0.0; 0];
+    let wafers = no_wafers();
     let answer = door_step(
         tool,
         reports,
@@ -123,7 +125,7 @@ pub extern "C" fn hm_time_step(
         &none,
         clock,
         time,
-        &untimed,
+        wafers,
     );
     answer as u32
 }
@@ -141,7 +143,8 @@ pub extern "C" fn hm_wafers_step(
         r (now (tool .exit)) (now (reports .exit)) ⌝ }
 {
     let none = [0; 0];
-    let answer = door_step(tool, reports, 35, 0, 0, name, &none, clock, 0, times);
+    let wafers = wafers_from(times);
+    let answer = door_step(tool, reports, 35, 0, 0, name, &none, clock, 0, wafers);
     answer as u32
 }
 

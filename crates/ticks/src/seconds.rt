@@ -1,6 +1,7 @@
 // What the process module sent, and the whole seconds that are enough for it.
 ghost use mathlib.Core.Path.{_≡_};
 ghost use Prim.Native.Nat.{_≤_};
+ghost use mathlib.Core.List.{[]};
 ghost use Rattle.ticks.specs.Times.{Counts, ticks};
 ghost use Rattle.ticks.specs.Wafers.{roundedUp, wafersFrom};
 use crate::sizes::*;
@@ -10,17 +11,18 @@ use crate::wafers::*;
 pub struct Sent {
     pub fits: bool,
     pub timely: bool,
-    pub seconds: u64,
+    pub seconds: u32,
 }
 
 // A total that is a whole number of 1/1024ths, rounded up to a second.
-fn rounded_up(t: f64) -> u64
+fn rounded_up(t: f64) -> u32
     requires { ⌜ Counts t (ticks t) ⌝ }
     requires { ⌜ ticks t ≤ 53687091200 ⌝ }
     ensures { λ r. ⌜ r ≡ roundedUp (ticks t) ⌝ }
 {
     let n = std::num::truncating_f64_to_u64(t * 1024.0);
-    (n + (SECOND_TICKS - 1)) / SECOND_TICKS
+    let s = (n + (SECOND_TICKS - 1)) / SECOND_TICKS;
+    s as u32
 }
 
 // The times of wafers as they were sent, process time and handling time in turn.
@@ -55,5 +57,16 @@ pub fn wafers_from(times: &[f64]) -> Sent
             timely: false,
             seconds: 0,
         }
+    }
+}
+
+// No wafers.
+pub fn no_wafers() -> Sent
+    ensures { λ r. ⌜ r ≡ wafersFrom [] ⌝ }
+{
+    Sent {
+        fits: true,
+        timely: true,
+        seconds: 0,
     }
 }

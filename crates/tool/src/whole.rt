@@ -5,7 +5,7 @@ ghost use lib.ListN.{replicate};
 ghost use Rattle.rules.specs.Seen.{inputOf};
 ghost use Rattle.image.specs.Image.{reportsFrom};
 ghost use Rattle.prediction.specs.State.{timed};
-ghost use Rattle.wafers.specs.Outcome.{brought};
+ghost use Rattle.wafers.specs.Outcome.{bringing};
 ghost use Rattle.tool.specs.Whole.{wholeIn, soundWhole, setUp, outcome};
 use crate::layout::*;
 use follow::blocks::BLOCKS;
@@ -19,6 +19,7 @@ use mapped::kept::sound_maps;
 use passes::bytes::zeros;
 use records::choose::wide;
 use soundness::whole::sound;
+use ticks::seconds::Sent;
 use times::sound::sound_predictions;
 use times::sound::sound_times;
 use times::words::SPAN_MOST;
@@ -90,17 +91,17 @@ pub fn whole_step(
     codes: &[u8],
     clock: u32,
     time: u32,
-    times: &[f64],
+    wafers: Sent,
 ) -> u8
     ensures { λ r. ⌜ wholeIn (now (m .exit)) ≡ outcome (wholeIn (now (m .entry)))
-        (brought (timed (inputOf number port value (now (name .entry)) (now (codes .entry))) clock time) (now (times .entry))) .tool ⌝ }
+        (bringing (timed (inputOf number port value (now (name .entry)) (now (codes .entry))) clock time) wafers) .tool ⌝ }
     ensures { λ r. ⌜ reportsFrom (now (o .exit)) ≡ outcome (wholeIn (now (m .entry)))
-        (brought (timed (inputOf number port value (now (name .entry)) (now (codes .entry))) clock time) (now (times .entry))) .reports ⌝ }
+        (bringing (timed (inputOf number port value (now (name .entry)) (now (codes .entry))) clock time) wafers) .reports ⌝ }
     ensures { λ r. ⌜ r ≡ outcome (wholeIn (now (m .entry)))
-        (brought (timed (inputOf number port value (now (name .entry)) (now (codes .entry))) clock time) (now (times .entry))) .answer ⌝ }
+        (bringing (timed (inputOf number port value (now (name .entry)) (now (codes .entry))) clock time) wafers) .answer ⌝ }
 {
     if whole_sound(m) {
-        brought_step(m, o, number, port, value, name, codes, clock, time, times)
+        brought_step(m, o, number, port, value, name, codes, clock, time, wafers)
     } else {
         no_reports(o);
         1

@@ -38,12 +38,12 @@ module _ (t : PredictedTool) (i : Brought) where
     module _ (b : fits i ≡ true) where
       pub tp-given : good i ≡ true → prediction.givenIn t (withTp i (tpOf i)) ≡ givenIn t i
       unfolding givenIn prediction.givenIn answerIn stateAfter standsFor toldOf prediction.reached
-      tp-given c = rw (a, b, c)
+      tp-given c = rw (a, c, b)
 
       -- any other float, or a Tp past the clock's range
       pub untimely : good i ≡ false → (n : ℕ) → n ≡ lower (prediction.answerIn (stateOf t) (withTp i 0)) 12 → refused t n ≡ givenIn t i
       unfolding givenIn answerIn
-      untimely c n e = rw (a, b, c, lower-twelve (prediction.answerIn (stateOf t) (withTp i 0)), e)
+      untimely c n e = rw (a, c, b, lower-twelve (prediction.answerIn (stateOf t) (withTp i 0)), e)
 
 -- a tool that is left as it was, with nothing to report
 pub left-refused : (t : PredictedTool) (r : Reports) (n : ℕ) → r ≡ noReports

@@ -4,11 +4,11 @@ use mathlib.Core.Bool.{Bool, _||_}
 use mathlib.Core.List.{List}
 use lib.Dec.{eqb}
 use Rattle.prediction.specs.Named as prediction
-use Rattle.wafers.specs.Outcome.{Brought, brought}
+use Rattle.wafers.specs.Outcome.{Brought, bringing}
 
 unfoldable pub takesName : ℕ → Bool
 takesName n = prediction.takesName n || eqb n 35
 
 -- an input that is called by another name
 abbrev pub called : List ℕ → Brought → Brought
-called name i = brought (prediction.called name (i .timed)) (i .times)
+called name i = bringing (prediction.called name (i .timed)) (i .wafers)

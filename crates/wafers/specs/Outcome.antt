@@ -11,30 +11,35 @@ use Rattle.prediction.specs.State.{Predicted, PredictedTool, stateOf, Timed, ti
 use Rattle.prediction.specs.Sound.{isTime}
 use Rattle.prediction.specs.Outcome as prediction
 use Rattle.prediction.specs.Outcome.{Given, refused, accepted}
+use Rattle.ticks.specs.declared.seconds.Sent.{Sent}
 use Rattle.ticks.specs.Wafers.{wafersFrom}
 
--- An input brings the times of wafers, too, process time and handling time in turn: 35 looks at them.
+-- An input brings wafers, too, or what is made of their times: 35 looks at it.
 pub record Brought : Type 0 where
   pub timed : Timed
-  pub times : List Float
+  pub wafers : Sent
 
+abbrev pub bringing : Timed → Sent → Brought
+bringing i wafers = record { timed = i; wafers = wafers }
+
+-- with the times of wafers, process time and handling time in turn
 abbrev pub brought : Timed → List Float → Brought
-brought i times = record { timed = i; times = times }
+brought i times = bringing i (wafersFrom times)
 
 abbrev pub isWafers : Brought → Bool
 isWafers i = eqb (i .timed .input .number) 35
 
 -- at most 25 wafers, and each a process time and a handling time
 abbrev pub fits : Brought → Bool
-fits i = wafersFrom (i .times) .fits
+fits i = i .wafers .fits
 
 -- Tp is the clock plus the total, rounded up to a second.
 abbrev pub tpOf : Brought → ℕ
-tpOf i = i .timed .clock + wafersFrom (i .times) .seconds
+tpOf i = i .timed .clock + i .wafers .seconds
 
 -- each time is a whole multiple of 1/1024 in range, and Tp is within the clock's range
 unfoldable pub good : Brought → Bool
-good i = wafersFrom (i .times) .timely && isTime (tpOf i)
+good i = i .wafers .timely && isTime (tpOf i)
 
 -- P7's input for Tp: 32 PredictedTime(clock, name, Tp)
 abbrev pub withTp : Brought → ℕ → Timed

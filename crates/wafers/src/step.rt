@@ -9,7 +9,7 @@ ghost use Rattle.mapped.specs.Bytes.{ownIn};
 ghost use Rattle.prediction.specs.State.{timed};
 ghost use Rattle.prediction.specs.Sound.{soundTool};
 ghost use Rattle.predicted.specs.Bytes.{predictedIn, left};
-ghost use Rattle.wafers.specs.Outcome.{brought, givenIn};
+ghost use Rattle.wafers.specs.Outcome.{bringing, givenIn};
 use follow::blocks::BLOCKS;
 use image::layout::*;
 use image::report::no_reports;
@@ -17,7 +17,7 @@ use model8::facts::roomy;
 use predicted::step::predicted_step;
 use predicted::timed::answer_alone;
 use records::choose::first;
-use ticks::seconds::wafers_from;
+use ticks::seconds::Sent;
 use times::words::TIME_END;
 
 const PREDICTED_TIME: u32 = 32;
@@ -55,18 +55,17 @@ fn wafers_step(
     codes: &[u8],
     clock: u32,
     time: u32,
-    times: &[f64],
+    wafers: Sent,
 ) -> u8
     requires { ⌜ soundTool (predictedIn (now m)) ≡ true ⌝ }
     ensures { λ r. ⌜ left (now (m .exit)) (now (o .exit)) r ≡ givenIn (predictedIn (now (m .entry)))
-        (brought (timed (inputOf 35 port value (now (name .entry)) (now (codes .entry))) clock time) (now (times .entry))) ⌝ }
+        (bringing (timed (inputOf 35 port value (now (name .entry)) (now (codes .entry))) clock time) wafers) ⌝ }
     ensures { λ r. ⌜ KeptOutside 0 1597 (ownIn (now (m .entry))) (ownIn (now (m .exit))) ⌝ }
 {
     let none = [0; 0];
-    let w = wafers_from(times);
-    if w.fits {
-        let tp = roomy(clock) + w.seconds;
-        if w.timely & (tp < TIME_END) {
+    if wafers.fits {
+        let tp = roomy(clock) + roomy(wafers.seconds);
+        if wafers.timely & (tp < TIME_END) {
             let time = as_time(tp);
             predicted_step(m, o, PREDICTED_TIME, 0, 0, name, &none, clock, time)
         } else {
@@ -90,15 +89,15 @@ pub fn brought_step(
     codes: &[u8],
     clock: u32,
     time: u32,
-    times: &[f64],
+    wafers: Sent,
 ) -> u8
     requires { ⌜ soundTool (predictedIn (now m)) ≡ true ⌝ }
     ensures { λ r. ⌜ left (now (m .exit)) (now (o .exit)) r ≡ givenIn (predictedIn (now (m .entry)))
-        (brought (timed (inputOf number port value (now (name .entry)) (now (codes .entry))) clock time) (now (times .entry))) ⌝ }
+        (bringing (timed (inputOf number port value (now (name .entry)) (now (codes .entry))) clock time) wafers) ⌝ }
     ensures { λ r. ⌜ KeptOutside 0 1597 (ownIn (now (m .entry))) (ownIn (now (m .exit))) ⌝ }
 {
     if number == WAFERS {
-        wafers_step(m, o, port, value, name, codes, clock, time, times)
+        wafers_step(m, o, port, value, name, codes, clock, time, wafers)
     } else {
         predicted_step(m, o, number, port, value, name, codes, clock, time)
     }

@@ -7,7 +7,9 @@ use lib.ListN.{take, drop}
 use lib.Seq.{length-take-le}
 use Rattle.rules.specs.Seen.{inputOf}
 use Rattle.prediction.specs.State.{timed}
-use Rattle.wafers.specs.Outcome.{Brought, brought}
+use Rattle.ticks.specs.declared.seconds.Sent.{Sent}
+use Rattle.ticks.specs.Wafers.{wafersFrom}
+use Rattle.wafers.specs.Outcome.{Brought, bringing}
 use Rattle.items.specs.Reading.{readMessage}
 use Rattle.items.proofs.Few.{item-few}
 use Rattle.secs.specs.Request.{requestIn}
@@ -50,9 +52,10 @@ returns-2 c =
     let r = q .request-in .result in
     let m = s .args .message .now in
     let z : r .at + r .many - r .at ≡ r .many = omega arith in
-    let input : List ℕ → Brought = λ name. brought (timed (inputOf (r .number) (r .port) 0 name (take (r .coded) (r .codes))) 0 0) [] in
-    let part = ap (λ k. outcome (wholeIn (s .args .m .now)) (input (take k (drop (r .at) m)))) z in
-    let o = part ∙ taken (wholeIn (s .args .m .now)) m r h (i .if1 .left) in
+    let input : List ℕ → Sent → Brought = λ name. bringing (timed (inputOf (r .number) (r .port) 0 name (take (r .coded) (r .codes))) 0 0) in
+    let none = ap (λ w. outcome (wholeIn (s .args .m .now)) (input (take (r .at + r .many - r .at) (drop (r .at) m)) w)) (c .before .no-wafers .ensures) in
+    let part = ap (λ k. outcome (wholeIn (s .args .m .now)) (input (take k (drop (r .at) m)) (wafersFrom []))) z in
+    let o = none ∙ part ∙ taken (wholeIn (s .args .m .now)) m r h (i .if1 .left) in
     let w = c .door-step .ensures in
     (w .0 ∙ ap (λ x. x .tool) o, (w .1 .0 ∙ ap (λ x. x .reports) o, (w .1 .1 ∙ ap (λ x. x .answer) o, h .counted)))
 
@@ -61,4 +64,4 @@ bridge-step-spec =
     tie.close
     (tie.spec (λ c κs. tt) cast-items (λ c κs. tt) returns (λ c. search needs) (λ c. search needs) (λ c. search needs)
     (λ c. search needs) (λ c. search needs) (λ c. search needs) array-share-prefix-codes slice-aggregate-door-step
-    (λ c. refl) (λ c κs. tt) returns-2)
+    (λ c κs. tt) (λ c κs. tt) returns-2)

@@ -9,7 +9,7 @@ use Rattle.names.proofs.Given.{seen-front}
 use Rattle.names.proofs.Lengths.{shortened-short}
 use Rattle.rules.specs.Seen.{inputOf}
 use Rattle.prediction.specs.State.{timed}
-use Rattle.wafers.specs.Outcome.{Brought, brought}
+use Rattle.wafers.specs.Outcome.{Brought, bringing}
 use Rattle.tool.specs.Whole.{wholeIn}
 use Rattle.tool.specs.Whole as tool
 use Rattle.door.specs.Door.{outcome}
@@ -19,7 +19,7 @@ use Rattle.door.proofs.door.door_step.Tie as tie
 slice-aggregate-whole-step : tie.Need-slice-aggregate-whole-step
 slice-aggregate-whole-step c =
     let b = c .before .before .before in
-    let text = b .before .before .before .before .args .name .now in
+    let text = b .before .before .before .args .name .now in
     let n = b .shortened-length .result in
     let e : n ≡ length (shortened text) = b .shortened-length .ensures in
     let h = shortened-short text in
@@ -29,13 +29,13 @@ returns : tie.Need-returns
 unfolding outcome
 returns c =
     let b = c .before .before .before .before in
-    let s = b .before .before .before .before in
+    let s = b .before .before .before in
     let text = s .args .name .now in
     let e : b .shortened-length .result ≡ length (shortened text) = b .shortened-length .ensures in
     let i : List ℕ → Brought =
-    λ name. brought
+    λ name. bringing
     (timed (inputOf (s .args .number) (s .args .port) (s .args .value) name (s .args .codes .now)) (s .args .clock) (s .args .time))
-    (s .args .times .now) in
+    (s .args .wafers) in
     let o = ap (λ name. tool.outcome (wholeIn (s .args .m .now)) (i name)) (ap (λ n. take n text) e ∙ seen-front text) in
     let w = c .whole-step .ensures in
     (w .0 ∙ ap (λ o. o .tool) o, (w .1 .0 ∙ ap (λ o. o .reports) o, w .1 .1 ∙ ap (λ o. o .answer) o))

@@ -35,12 +35,16 @@ counted : (c : tie.After-truncating-f64-to-u64) → c .truncating-f64-to-u64 .re
 unfolding ofBits
 counted c = c .truncating-f64-to-u64 .ensures ∙ cut (c .before .args .t) (c .before .pre .0) (c .before .pre .1)
 
-add-result : tie.Need-add-result
-add-result c = let e = counted c in omega arith
+add-s : tie.Need-add-s
+add-s c = let e = counted c in omega arith
+
+-- fifty-two million seconds have room in 32 bits
+cast-result : tie.Need-cast-result
+cast-result c = let e = counted c in let l = c .before .pre .1 in omega arith
 
 returns : tie.Need-returns
 unfolding roundedUp
 returns c = rw (counted c)
 
 pub rounded-up-spec : {M : Type 1} → statement M
-rounded-up-spec = tie.close (tie.spec truncating-f64-to-u64-requires (λ c. search needs) add-result returns)
+rounded-up-spec = tie.close (tie.spec truncating-f64-to-u64-requires (λ c. search needs) add-s cast-result returns)

@@ -3,7 +3,7 @@ use mathlib.Core.Path.{sym, ap, _∙_}
 use Rattle.rules.specs.Seen.{inputOf}
 use Rattle.mapped.specs.Bytes.{ownIn}
 use Rattle.prediction.specs.State.{timed}
-use Rattle.wafers.specs.Outcome.{Brought, brought}
+use Rattle.wafers.specs.Outcome.{Brought, bringing}
 use Rattle.prediction.specs.Outcome.{Given}
 use Rattle.tool.specs.Whole.{wholeIn}
 use Rattle.tool.proofs.Tested.{layered-sound, when-sound, when-not, unused-after, whole-of}
@@ -12,21 +12,21 @@ use Rattle.tool.proofs.whole.whole_step.Tie as tie
 
 abbrev input : tie.Start → Brought
 input s =
-    brought
+    bringing
     (timed (inputOf (s .args .number) (s .args .port) (s .args .value) (s .args .name .now) (s .args .codes .now)) (s .args .clock) (s .args .time))
-    (s .args .times .now)
+    (s .args .wafers)
 
 brought-step-requires : tie.Need-brought-step-requires
 brought-step-requires c κs =
     let u = c .before .before in
     let t = u .before in
-    layered-sound (t .before .before .before .before .before .args .m .now) (sym (t .whole-sound .ensures) ∙ u .if1 .taken)
+    layered-sound (t .before .before .before .before .args .m .now) (sym (t .whole-sound .ensures) ∙ u .if1 .taken)
 
 returns : tie.Need-returns
 returns c =
     let u = c .before .before .before in
     let t = u .before in
-    let s = t .before .before .before .before .before in
+    let s = t .before .before .before .before in
     let m = s .args .m .now in
     let o = when-sound (wholeIn m) (input s) (sym (t .whole-sound .ensures) ∙ u .if1 .taken) in
     let e = c .brought-step .ensures .0 in
@@ -40,7 +40,7 @@ returns-2 : tie.Need-returns-2
 returns-2 c =
     let u = c .before .before in
     let t = u .before in
-    let s = t .before .before .before .before .before in
+    let s = t .before .before .before .before in
     let o = when-not (wholeIn (s .args .m .now)) (input s) (sym (t .whole-sound .ensures) ∙ u .if1 .left) in
     (ap (λ x. x .tool) o, (c .no-reports .ensures ∙ ap (λ x. x .reports) o, ap (λ x. x .answer) o))
 

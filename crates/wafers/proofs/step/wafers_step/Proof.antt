@@ -14,61 +14,49 @@ use Rattle.mapped.specs.Bytes.{ownIn}
 use Rattle.prediction.specs.State.{timed}
 use Rattle.prediction.specs.Outcome as prediction
 use Rattle.predicted.specs.Bytes.{predictedIn}
-use Rattle.ticks.specs.declared.seconds.Sent.{Sent}
-use Rattle.wafers.specs.Outcome.{Brought, brought, fits, tpOf, good, withTp}
+use Rattle.wafers.specs.Outcome.{Brought, bringing, fits, tpOf, good, withTp}
 use Rattle.wafers.proofs.Given.{too-many, tp-given, untimely, left-refused}
 use Rattle.wafers.proofs.step.wafers_step.Statement.{statement}
 use Rattle.wafers.proofs.step.wafers_step.Tie as tie
 
 abbrev input : tie.Start → Brought
 input s =
-    brought
+    bringing
     (timed (inputOf 35 (s .args .port) (s .args .value) (s .args .name .now) (s .args .codes .now)) (s .args .clock) (s .args .time))
-    (s .args .times .now)
+    (s .args .wafers)
 
-abbrev start : tie.After-wafers-from → tie.Start
-start c = c .before .before .before .before
+module _ (c : tie.After-roomy2) where
+  abbrev start : tie.Start
+  start = c .before .before .before .before .before
 
--- what is found of the wafers
-fitting : (c : tie.After-wafers-from) → c .wafers-from .result .fits ≡ fits (input (start c))
-fitting c = ap (λ (w : Sent). w .fits) (c .wafers-from .ensures .0)
+  tp-is : c .before .roomy .result + c .roomy2 .result ≡ tpOf (input start)
+  tp-is = ap₂ _+_ (c .before .roomy .ensures) (c .roomy2 .ensures)
 
-module _ (c : tie.After-roomy) where
-  abbrev found : tie.After-wafers-from
-  found = c .before .before
-
-  tp-is : c .roomy .result + found .wafers-from .result .seconds ≡ tpOf (input (start found))
-  tp-is = ap₂ _+_ (c .roomy .ensures) (ap (λ (w : Sent). w .seconds) (found .wafers-from .ensures .0))
-
-  tested : (found .wafers-from .result .timely && ltb (c .roomy .result + found .wafers-from .result .seconds) 4294967296)
-      ≡ good (input (start found))
+  tested : (start .args .wafers .timely && ltb (c .before .roomy .result + c .roomy2 .result) 4294967296) ≡ good (input start)
   unfolding good
-  tested = ap₂ (λ a b. a && ltb b 4294967296) (ap (λ (w : Sent). w .timely) (found .wafers-from .ensures .0)) tp-is
+  tested = ap (λ tp. start .args .wafers .timely && ltb tp 4294967296) tp-is
 
 as-time-requires : tie.Need-as-time-requires
-as-time-requires c κs =
-    let r = c .before .before .before in
-    ltb-true _ 4294967296 (and-r (found r .wafers-from .result .timely) _ (c .if2 .taken))
+as-time-requires c κs = ltb-true _ 4294967296 (and-r (start (c .before .before) .args .wafers .timely) _ (c .if2 .taken))
 
 returns : tie.Need-returns
 returns c =
     let k = c .before .before .before .before in
     let t = k .before in
-    let r = t .before .before .before in
-    let s = start (found r) in
-    let g = tp-given (predictedIn (s .args .m .now)) (input s) refl (sym (fitting (found r)) ∙ r .before .if1 .taken)
-    (sym (tested r) ∙ t .if2 .taken) in
+    let r = t .before .before in
+    let s = start r in
+    let g = tp-given (predictedIn (s .args .m .now)) (input s) refl (r .before .before .if1 .taken) (sym (tested r) ∙ t .if2 .taken) in
     let e = c .predicted-step .ensures in
     (e .0 ∙ ap (λ tp. prediction.givenIn (predictedIn (s .args .m .now)) (withTp (input s) tp)) (k .as-time .ensures ∙ tp-is r) ∙ g, e .1)
 
 returns-2 : tie.Need-returns-2
 returns-2 c =
     let e = c .before .before .before .before .before .before in
-    let r = e .before .before .before in
-    let s = start (found r) in
+    let r = e .before .before in
+    let s = start r in
     let m = s .args .m .now in (
       left-refused (predictedIn m) _ _ (c .before .before .before .before .no-reports .ensures)
-          ∙ untimely (predictedIn m) (input s) refl (sym (fitting (found r)) ∙ r .before .if1 .taken) (sym (tested r) ∙ e .if2 .left) _
+          ∙ untimely (predictedIn m) (input s) refl (r .before .before .if1 .taken) (sym (tested r) ∙ e .if2 .left) _
           (c .or-untimely .ensures ∙ ap (λ n. lower n 12) (c .before .answer-alone .ensures)),
       kept-all 0 1597 (ownIn m),
     )
@@ -76,10 +64,9 @@ returns-2 c =
 returns-3 : tie.Need-returns-3
 returns-3 c =
     let e = c .before .before in
-    let f = e .before in
-    let m = start f .args .m .now in (
-      left-refused (predictedIn m) _ 1 (c .no-reports2 .ensures)
-          ∙ too-many (predictedIn m) (input (start f)) refl (sym (fitting f) ∙ e .if1 .left),
+    let s = e .before .before .before in
+    let m = s .args .m .now in (
+      left-refused (predictedIn m) _ 1 (c .no-reports2 .ensures) ∙ too-many (predictedIn m) (input s) refl (e .if1 .left),
       kept-all 0 1597 (ownIn m),
     )
 
