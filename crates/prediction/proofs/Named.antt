@@ -66,7 +66,7 @@ module _ (i : Timed) (name : List ℕ) (f : takesName (i .input .number) ≡ fal
     unfolding queue.answerIn
     below-answers = let a = queue-names.rows-alike (i .input) name not-queue (s .queued) in rw (a .grounds, a .answers)
 
-    answer-ignores : answerIn s (called name i) ≡ answerIn s i
+    pub answer-ignores : answerIn s (called name i) ≡ answerIn s i
     unfolding answerIn groundsOf
     answer-ignores = go (isTimed n) refl
       where
@@ -80,9 +80,17 @@ module _ (i : Timed) (name : List ℕ) (f : takesName (i .input .number) ≡ fal
         let a = queue-names.rows-alike (i .input) name not-queue (s .queued) in
         rw (a .grounds, a .queue, a .answers, a .leads, a .goes, a .made)
 
+    pub state-ignores : stateAfter s (called name i) ≡ stateAfter s i
+    unfolding stateAfter
+    state-ignores = rw (answer-ignores, below-ignores, not-said)
+
+    pub reports-ignore : reportsIn s (called name i) ≡ reportsIn s i
+    unfolding reportsIn
+    reports-ignore = rw (answer-ignores, below-ignores, not-said)
+
   pub given-ignores : (t : PredictedTool) → givenIn t (called name i) ≡ givenIn t i
-  unfolding givenIn stateAfter reportsIn
-  given-ignores t = rw (answer-ignores (stateOf t), below-ignores (stateOf t), not-said)
+  unfolding givenIn
+  given-ignores t = rw (answer-ignores (stateOf t), state-ignores (stateOf t), reports-ignore (stateOf t))
 
 -- ── Refused ──
 module _ (i : Timed) (h : isName (i .input .name) ≡ false) (t : takesName (i .input .number) ≡ true) (m : nameMissing (i .input) ≡ false) where

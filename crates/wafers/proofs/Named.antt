@@ -10,25 +10,44 @@ use Rattle.rules.specs.Row.{lower}
 use Rattle.rules.specs.Named as base
 use Rattle.rules.specs.Named.{nameMissing}
 use Rattle.queue.specs.Named as queue
-use Rattle.prediction.specs.State.{PredictedTool, stateOf}
+use Rattle.prediction.specs.State.{Predicted, PredictedTool, stateOf}
+use Rattle.prediction.specs.Outcome as below
 use Rattle.prediction.specs.Outcome.{refused}
 use Rattle.prediction.specs.Named as prediction
 use Rattle.prediction.proofs.Named as names
-use Rattle.wafers.specs.Outcome.{Brought, isWafers, fits, tpOf, good, withTp, givenIn}
+use Rattle.wafers.specs.Outcome.{Brought, isWafers, fits, tpOf, good, withTp, answerIn, standsFor, stateAfter, toldOf, reportsIn, givenIn}
 use Rattle.wafers.specs.Named.{takesName, called}
-use Rattle.wafers.proofs.Given.{others-given, too-many, tp-given, untimely}
 
 -- ── Ignored ──
-pub given-ignores : (i : Brought) (name : List ℕ) → takesName (i .timed .input .number) ≡ false
-    → (t : PredictedTool) → givenIn t (called name i) ≡ givenIn t i
-unfolding takesName
-given-ignores i name f t =
-    let a = or-false-r (prediction.takesName (i .timed .input .number)) _ f in
-    sym (others-given t (called name i) a) ∙ names.given-ignores (i .timed) name (or-false-l _ _ f) t ∙ others-given t i a
+module _ (i : Brought) (name : List ℕ) (f : takesName (i .timed .input .number) ≡ false) where
+  not-wafers : isWafers i ≡ false
+  unfolding takesName
+  not-wafers = or-false-r (prediction.takesName (i .timed .input .number)) _ f
+
+  not-below : prediction.takesName (i .timed .input .number) ≡ false
+  unfolding takesName
+  not-below = or-false-l _ _ f
+
+  module _ (s : Predicted) where
+    pub answer-ignores : answerIn s (called name i) ≡ answerIn s i
+    unfolding answerIn
+    answer-ignores = rw not-wafers (names.answer-ignores (i .timed) name not-below s)
+
+    pub state-ignores : stateAfter s (called name i) ≡ stateAfter s i
+    unfolding stateAfter standsFor below.reached
+    state-ignores = rw not-wafers (names.state-ignores (i .timed) name not-below s)
+
+    pub reports-ignore : reportsIn s (called name i) ≡ reportsIn s i
+    unfolding standsFor toldOf below.reached
+    reports-ignore = rw not-wafers (names.reports-ignore (i .timed) name not-below s)
+
+  pub given-ignores : (t : PredictedTool) → givenIn t (called name i) ≡ givenIn t i
+  unfolding givenIn
+  given-ignores t = rw (answer-ignores (stateOf t), state-ignores (stateOf t), reports-ignore (stateOf t))
 
 -- ── Refused ──
 module _ (i : Brought) (h : isName (i .timed .input .name) ≡ false) (k : takesName (i .timed .input .number) ≡ true)
-    (m : nameMissing (i .timed .input) ≡ false) (u : PredictedTool) where
+    (m : nameMissing (i .timed .input) ≡ false) where
   -- P7's input for Tp takes a name, and it is never missing there
   tp-takes : prediction.takesName 32 ≡ true
   unfolding prediction.takesName queue.takesName base.takesName
@@ -38,21 +57,28 @@ module _ (i : Brought) (h : isName (i .timed .input .name) ≡ false) (k : takes
   unfolding nameMissing
   tp-given-name tp = refl
 
-  one-lower : lower 1 12 ≡ 1
-  unfolding lower
-  one-lower = refl
+  tp-answers : (s : Predicted) (tp : ℕ) → below.answerIn s (withTp i tp) ≡ 1
+  tp-answers s tp = names.answers (withTp i tp) h tp-takes (tp-given-name tp) s
 
-  pub turned-away : givenIn u i ≡ refused u 1
+  takes-below : isWafers i ≡ false → prediction.takesName (i .timed .input .number) ≡ true
   unfolding takesName
-  turned-away = go (isWafers i) refl (fits i) refl (good i) refl
+  takes-below = go (prediction.takesName (i .timed .input .number)) k
     where
-      go : (a : Bool) → isWafers i ≡ a → (b : Bool) → fits i ≡ b → (c : Bool) → good i ≡ c → givenIn u i ≡ refused u 1
-      go true p true q true r = sym (tp-given u i p q r) ∙ names.turned-away (withTp i (tpOf i)) h tp-takes (tp-given-name (tpOf i)) u
-      go true p true q false r =
-          sym (untimely u i p q r 1 (sym (ap (λ n. lower n 12) (names.answers (withTp i 0) h tp-takes (tp-given-name 0) (stateOf u)) ∙ one-lower)))
-      go true p false q c r = sym (too-many u i p q)
-      go false p b q c r = sym (others-given u i p) ∙ names.turned-away (i .timed) h (first (prediction.takesName (i .timed .input .number)) k p) m u
-        where
-          first : (w : Bool) → (w || eqb (i .timed .input .number) 35) ≡ true → eqb (i .timed .input .number) 35 ≡ false → w ≡ true
-          first true e f = refl
-          first false e f = sym f ∙ e
+      go : (w : Bool) → (w || eqb (i .timed .input .number) 35) ≡ true → eqb (i .timed .input .number) 35 ≡ false → w ≡ true
+      go true e f = refl
+      go false e f = sym f ∙ e
+
+  pub answers : (s : Predicted) → answerIn s i ≡ 1
+  unfolding answerIn lower
+  answers s = go (isWafers i) refl (fits i) (good i)
+    where
+      go : (a : Bool) → isWafers i ≡ a → (b c : Bool)
+          → cond a (cond b (cond c (below.answerIn s (withTp i (tpOf i))) (lower (below.answerIn s (withTp i 0)) 12)) 1) (below.answerIn s (i .timed)) ≡ 1
+      go true p true true = tp-answers s (tpOf i)
+      go true p true false = ap (λ n. lower n 12) (tp-answers s 0)
+      go true p false c = refl
+      go false p b c = names.answers (i .timed) h (takes-below p) m s
+
+  pub turned-away : (u : PredictedTool) → givenIn u i ≡ refused u 1
+  unfolding givenIn
+  turned-away u = rw (answers (stateOf u))
