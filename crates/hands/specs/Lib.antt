@@ -1,0 +1,10 @@
+pub mod Alarms
+pub mod State
+pub mod Sound
+pub mod Rows
+pub mod Outcome
+pub mod Projection
+pub mod Promise
+pub mod Cases
+pub mod Reachable
+pub mod Host
