@@ -1,0 +1,4 @@
+pub mod Bytes
+pub mod Tests
+pub mod Settling
+pub mod Passing
