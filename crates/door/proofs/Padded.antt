@@ -15,7 +15,7 @@ use Rattle.names.specs.Check.{shortened}
 use Rattle.names.proofs.Given.{seen-name, refused-padded, refused-stays, shortened-padded}
 use Rattle.wafers.specs.Outcome.{Brought}
 use Rattle.wafers.specs.Named.{takesName, called}
-use Rattle.wafers.proofs.Named.{given-ignores, turned-away}
+use Rattle.hands.proofs.Named.{given-ignores, turned-away}
 use Rattle.tool.specs.Whole as tool
 use Rattle.tool.specs.Whole.{Whole, soundWhole, around, refused}
 use Rattle.tool.proofs.Tested.{when-sound, when-not}

@@ -14,10 +14,11 @@ use Rattle.rules.specs.Promise.{Live}
 use Rattle.names.specs.Check.{isBlank}
 use Rattle.queue.proofs.Below.{base-facts}
 use Rattle.queue.proofs.SoundRuns.{sound-parts}
-use Rattle.prediction.specs.State.{baseOf, stateOf}
-use Rattle.prediction.specs.Sound.{soundTool}
 use Rattle.prediction.proofs.Sounds.{queue-part}
-use Rattle.prediction.proofs.SoundTools.{tool-sound}
+use Rattle.hands.specs.State.{baseOf, stateOf}
+use Rattle.hands.specs.Sound.{soundTool}
+use Rattle.hands.proofs.Sounds.{predicted-part}
+use Rattle.hands.proofs.SoundTools.{tool-sound}
 use Rattle.tool.specs.Whole.{Whole, soundWhole}
 
 not-blank : (b z : ℕ) → ((eqb b 0 && eqb z 0) || graphic b) ≡ true → isBlank b ≡ false
@@ -37,5 +38,6 @@ pub stored-plain : (t : Whole) → soundWhole t ≡ true → (k : ℕ) → Live 
 unfolding soundWhole holdsName
 stored-plain t h k l =
     let s = stateOf (t .layered) in
-    let p = sound-parts (s .queued) (queue-part s (tool-sound (t .layered) (and-l (soundTool (t .layered)) _ h))) in
-    none-blank _ (and-l _ _ (base-facts (s .queued .mapped) (p .mapped) .records k l .named))
+    let q = s .predicted in
+    let p = sound-parts (q .queued) (queue-part q (predicted-part s (tool-sound (t .layered) (and-l (soundTool (t .layered)) _ h)))) in
+    none-blank _ (and-l _ _ (base-facts (q .queued .mapped) (p .mapped) .records k l .named))

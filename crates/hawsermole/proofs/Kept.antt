@@ -12,14 +12,12 @@ use Rattle.rules.specs.State.{recordOf}
 use Rattle.rules.specs.History.{Event, history}
 use Rattle.rules.specs.Promise.{Live, Orderly}
 use Rattle.maps.specs.Promise.{Earned}
-use Rattle.prediction.specs.State.{Predicted, baseOf, PredictedTool, stateOf, Timed, timed, start}
-use Rattle.prediction.specs.Outcome as prediction
-use Rattle.prediction.specs.Outcome.{refused, accepted}
-use Rattle.prediction.specs.Promise.{events}
-use Rattle.prediction.proofs.Promised.{promised}
-use Rattle.wafers.specs.Outcome.{Brought, brought, answerIn, stateAfter, reportsIn, givenIn}
-use Rattle.wafers.specs.Projection.{cutDown}
-use Rattle.wafers.proofs.Projected.{below, cut-on, stands, answers-below}
+use Rattle.prediction.specs.State.{timed}
+use Rattle.wafers.specs.Outcome.{Brought, brought}
+use Rattle.hands.specs.State.{Handled, baseOf, HandledTool, stateOf, start}
+use Rattle.hands.specs.Outcome.{answerIn, stateAfter, reportsIn, refused, accepted, givenIn, reached}
+use Rattle.hands.specs.Promise.{events}
+use Rattle.hands.proofs.Promised.{promised}
 use Rattle.tool.specs.Whole as tool
 use Rattle.tool.specs.Whole.{Whole, wholeIn, soundWhole, setUp, reachedWhole}
 use Rattle.tool.proofs.Tested.{when-sound}
@@ -47,7 +45,7 @@ use Rattle.hawsermole.specs.Calls.{
 }
 
 -- a sound tool answers as its state does
-given-answer : (t : PredictedTool) (i : Brought) → givenIn t i .answer ≡ answerIn (stateOf t) i
+given-answer : (t : HandledTool) (i : Brought) → givenIn t i .answer ≡ answerIn (stateOf t) i
 unfolding givenIn
 given-answer t i = go (eqb (answerIn (stateOf t) i) 0) refl
   where
@@ -111,31 +109,27 @@ module _ (before : List (List ℕ)) (answer : ℕ) (after : List (List ℕ)) (re
       go true q = no-input m room items left length k q ∙ e
       go false q = after-text m items (as-text m room items left length k q) earlier t e
 
-  abbrev happens : Timed → Predicted → ℕ → Event
-  happens i s a = record { before = baseOf s; input = i .input; answer = a }
+  abbrev happens : Brought → Handled → ℕ → Event
+  happens i s a = record { before = baseOf s; input = i .timed .input; answer = a }
 
-  -- an input that was answered as the tool answers is the run's next event, by what it stands for
-  event-after : (i : Brought) → answer ≡ tool.outcome (wholeIn before) i .answer → (P B setting timeout : ℕ) (earlier : List Timed)
-      → soundWhole (wholeIn before) ≡ true → stateIn before ≡ prediction.reached (start P B setting timeout) earlier
-      → map (λ j. happens j (stateIn before) answer) (cutDown (i ∷ [])) ++ events (start P B setting timeout) earlier
-      ≡ events (start P B setting timeout) (cutDown (i ∷ []) ++ earlier)
-  unfolding events cutDown
+  -- an input that was answered as the tool answers is the run's next event
+  event-after : (i : Brought) → answer ≡ tool.outcome (wholeIn before) i .answer → (P B setting timeout : ℕ) (earlier : List Brought)
+      → soundWhole (wholeIn before) ≡ true → stateIn before ≡ reached (start P B setting timeout) earlier
+      → happens i (stateIn before) answer ∷ events (start P B setting timeout) earlier ≡ events (start P B setting timeout) (i ∷ earlier)
+  unfolding events
   event-after i k P B setting timeout earlier h e =
-      stands i (λ l. map (λ j. happens j (stateIn before) answer) (l ++ []) ++ events (start P B setting timeout) earlier
-      ≡ events (start P B setting timeout) ((l ++ []) ++ earlier)) refl
-      (λ x q. ap (λ a. happens x (stateIn before) a ∷ events (start P B setting timeout) earlier)
-      (k ∙ answer-is (wholeIn before) i h ∙ answers-below (stateIn before) i x q)
-      ∙ ap (λ s. happens x s (prediction.answerIn s x) ∷ events (start P B setting timeout) earlier) e)
+      ap (λ a. happens i (stateIn before) a ∷ events (start P B setting timeout) earlier) (k ∙ answer-is (wholeIn before) i h)
+      ∙ ap (λ s. happens i s (answerIn s i) ∷ events (start P B setting timeout) earlier) e
 
   -- the inputs that a call brought are the run's next events
-  module _ (P B setting timeout : ℕ) (earlier : List Timed) (h : soundWhole (wholeIn before) ≡ true)
-      (e : stateIn before ≡ prediction.reached (start P B setting timeout) earlier) where
+  module _ (P B setting timeout : ℕ) (earlier : List Brought) (h : soundWhole (wholeIn before) ≡ true)
+      (e : stateIn before ≡ reached (start P B setting timeout) earlier) where
     abbrev Next : List Brought → Type 0
-    Next is = map (λ i. happens i (stateIn before) answer) (cutDown is) ++ events (start P B setting timeout) earlier
-        ≡ events (start P B setting timeout) (cutDown is ++ earlier)
+    Next is = map (λ i. happens i (stateIn before) answer) is ++ events (start P B setting timeout) earlier
+        ≡ events (start P B setting timeout) (is ++ earlier)
 
     text-events : (m : List ℕ) (items : ℕ) → SecsCall before m answer after reports items → Next (read m)
-    unfolding read outcome bridged cutDown
+    unfolding read outcome bridged
     text-events m items k = go (eqb (requestIn m .refusal) 0) (k .answered)
       where
         go : (w : Bool)
@@ -145,7 +139,7 @@ module _ (before : List (List ℕ)) (answer : ℕ) (after : List (List ℕ)) (re
         go false q = refl
 
     events-after : (sent : Sent) → Made before sent answer after reports → Next (taken sent answer)
-    unfolding taken outcome cutDown
+    unfolding taken outcome
     events-after (typed i) k = event-after (shown i) (k .answered) P B setting timeout earlier h e
     events-after (text m items) k = text-events m items k
     events-after (lent m room items left length) k = go (eqb answer 14) refl
@@ -174,35 +168,33 @@ module _ (P B setting timeout : ℕ) where
     sound-is : soundWhole (wholeIn bytes) ≡ true
     sound-is = ap soundWhole (tool-is calls bytes l) ∙ tool-sound P B setting timeout (set-up calls bytes l) (inputs calls)
 
-    state-is : stateIn bytes ≡ prediction.reached (start P B setting timeout) (cutDown (inputs calls))
+    state-is : stateIn bytes ≡ reached (start P B setting timeout) (inputs calls)
     state-is =
         ap (λ t. stateOf (t .layered)) (tool-is calls bytes l) ∙ tool-holds P B setting timeout (set-up calls bytes l) (inputs calls)
-        ∙ below (start P B setting timeout) (inputs calls)
 
   -- what happened in the calls is what happens by the definitions
   events-are : (calls : List Call) (bytes : List (List ℕ)) → Left P B setting timeout calls bytes
-      → happened calls ≡ events (start P B setting timeout) (cutDown (inputs calls))
-  unfolding Left happened inputs events cutDown
+      → happened calls ≡ events (start P B setting timeout) (inputs calls)
+  unfolding Left happened inputs events
   events-are [] bytes l = refl
   events-are (c ∷ earlier) bytes l =
       ap (λ es. eventsOf c ++ es) (events-are earlier (c .before) (l .0))
-      ∙ events-after (c .before) (c .answer) bytes (c .reports) P B setting timeout (cutDown (inputs earlier)) (sound-is earlier (c .before) (l .0))
+      ∙ events-after (c .before) (c .answer) bytes (c .reports) P B setting timeout (inputs earlier) (sound-is earlier (c .before) (l .0))
       (state-is earlier (c .before) (l .0)) (c .sent) (l .1)
-      ∙ ap (events (start P B setting timeout)) (sym (cut-on (taken (c .sent) (c .answer)) (inputs earlier)))
 
 -- each carrier of a state has behind it what happened
-abbrev Backed : Predicted → List Event → Type 0
+abbrev Backed : Handled → List Event → Type 0
 Backed s es = (k : ℕ) → Live (baseOf s) k → Earned (history (recordOf (baseOf s) k .name) es) (recordOf (baseOf s) k)
 
 pub kept : (P B setting timeout : ℕ) (calls : List Call) (bytes : List (List ℕ)) → Left P B setting timeout calls bytes → Kept P B calls bytes
 kept P B setting timeout calls bytes l =
     let f = valid P B setting timeout (set-up P B setting timeout calls bytes l) in
-    let p = promised P B setting timeout (f .0) (f .1) (f .2) (cutDown (inputs calls)) in
+    let p = promised P B setting timeout (f .0) (f .1) (f .2) (inputs calls) in
     let s = sym (state-is P B setting timeout calls bytes l) in
     record {
       sound = sound-is P B setting timeout calls bytes l;
       orderly = subst (λ s. Orderly (baseOf s)) s (p .orderly);
       few = subst (λ s. length (baseOf s .carriers) ≤ P + B + 16) s (p .few);
       earned = subst (λ s. Backed s (happened calls)) s
-          (subst (Backed (prediction.reached (start P B setting timeout) (cutDown (inputs calls)))) (sym (events-are P B setting timeout calls bytes l)) (p .earned));
+          (subst (Backed (reached (start P B setting timeout) (inputs calls))) (sym (events-are P B setting timeout calls bytes l)) (p .earned));
     }

@@ -12,10 +12,10 @@ use Rattle.rules.specs.History.{Event, history}
 use Rattle.rules.specs.Promise.{Live, Orderly}
 use Rattle.image.specs.Image.{byteAt, toolFrom, reportsFrom}
 use Rattle.logs.specs.Judging.{Judgement}
-use Rattle.prediction.specs.State.{Predicted, baseOf, stateOf, timed}
+use Rattle.prediction.specs.State.{timed}
 use Rattle.prediction.specs.Outcome.{isTimed}
 use Rattle.wafers.specs.Outcome.{Brought, brought}
-use Rattle.wafers.specs.Projection.{cutDown}
+use Rattle.hands.specs.State.{Handled, baseOf, stateOf}
 use Rattle.maps.specs.Promise.{Earned}
 use Rattle.tool.specs.Whole.{wholeIn, soundWhole, setUp}
 use Rattle.door.specs.Door.{shown, outcome}
@@ -99,7 +99,7 @@ Left P B setting timeout (c ∷ earlier) bytes =
     Left P B setting timeout earlier (c .before) × Made (c .before) (c .sent) (c .answer) bytes (c .reports)
 
 -- the state that bytes hold
-abbrev pub stateIn : List (List ℕ) → Predicted
+abbrev pub stateIn : List (List ℕ) → Handled
 stateIn bytes = stateOf (wholeIn bytes .layered)
 
 -- The input that rows saw: a message that the reader refuses brings none.
@@ -112,10 +112,10 @@ taken (typed i) answer = shown i ∷ []
 taken (text message items) answer = read message
 taken (lent message room items left length) answer = cond (eqb answer 14) [] (read message)
 
--- What happened in a call: the answer is the one that the call gave; 35 counts as the input that it stands for.
+-- What happened in a call: the answer is the one that the call gave.
 abbrev pub eventsOf : Call → List Event
 eventsOf c =
-    map (λ i. record { before = baseOf (stateIn (c .before)); input = i .input; answer = c .answer }) (cutDown (taken (c .sent) (c .answer)))
+    map (λ i. record { before = baseOf (stateIn (c .before)); input = i .timed .input; answer = c .answer }) (taken (c .sent) (c .answer))
 
 unfoldable pub happened : List Call → List Event
 happened [] = []

@@ -1,4 +1,4 @@
--- A block of zeros: no map, no request, no time, no prediction, and nothing unused.
+-- A block of zeros: no map, no request, no time, no prediction, no alarm, and nothing unused.
 use Prim.Native.Nat.{ℕ, _+_, _*_}
 use mathlib.Core.Path.{_≡_, _∙_}
 use mathlib.Core.List.{List, []}
@@ -18,6 +18,9 @@ use Rattle.queued.specs.Bytes.{queuedIn}
 use Rattle.prediction.specs.declared.prediction.Times.{Times}
 use Rattle.prediction.specs.Predictions.{noPrediction}
 use Rattle.prediction.specs.State.{noPredictions}
+use Rattle.hands.specs.Alarms.{noAlarm}
+use Rattle.hands.specs.State.{noAlarms}
+use Rattle.handled.specs.Bytes.{alarmFrom, alarmStart, alarmsFrom}
 use Rattle.times.specs.Bytes.{secondsFrom, timesFrom, predictionFrom, predictionStart, predictionsFrom}
 
 abbrev pub zeros : List ℕ
@@ -51,6 +54,13 @@ no-predictions = table-same 36 _ (λ k. noPrediction) (λ k h. none-at (predicti
   where
     none-at : (o : ℕ) → predictionFrom zeros o ≡ noPrediction
     none-at o = rw (zero-at 1891 o, zero-at 1891 (o + 1), zero-at 1891 (o + 2), no-seconds (o + 3), no-seconds (o + 7))
+
+pub no-alarms : alarmsFrom zeros ≡ noAlarms
+unfolding alarmsFrom
+no-alarms = table-same 4 _ (λ k. noAlarm) (λ k h. none-at (alarmStart k)) ∙ table-const 4 noAlarm
+  where
+    none-at : (o : ℕ) → alarmFrom zeros o ≡ noAlarm
+    none-at o = rw (zero-at 1891 o, zero-at 1891 (o + 1))
 
 -- beside document 01's tool
 pub queued-made : (m : List (List ℕ)) {t : Tool} → toolFrom (getD m 0 []) ≡ t → ownIn m ≡ zeros

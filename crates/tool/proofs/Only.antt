@@ -20,6 +20,10 @@ use Rattle.line.specs.Bytes.{waitingIn, requestStart, requestFrom, queueFrom}
 use Rattle.line.proofs.Laid.{request-is}
 use Rattle.times.specs.Bytes.{timesFrom, predictionsFrom}
 use Rattle.times.proofs.Only.{Bytes, times-byte, predictions-byte}
+use Rattle.hands.specs.declared.alarm.Alarm.{Alarm}
+use Rattle.hands.specs.Alarms.{noAlarm}
+use Rattle.handled.specs.Bytes.{alarmStart, alarmFrom, alarmsFrom}
+use Rattle.handled.proofs.Laid.{alarm-is}
 use Rattle.tool.specs.Whole.{wholeIn}
 
 -- a byte of a part that is the same in both
@@ -42,7 +46,7 @@ request-byte m n o i e h = go (ltb i 16) refl (eqb i 16) refl
 
 module _ (m n : List ℕ) (f : Bytes m) (g : Bytes n) (p : mapsFrom m ≡ mapsFrom n) (w : waitingIn m ≡ waitingIn n)
     (r : queueFrom m ≡ queueFrom n) (t : timesFrom m ≡ timesFrom n) (k : predictionsFrom m ≡ predictionsFrom n)
-    (q : bytesFrom m 1597 294 ≡ bytesFrom n 1597 294) where
+    (v : alarmsFrom m ≡ alarmsFrom n) (q : bytesFrom m 1605 286 ≡ bytesFrom n 1605 286) where
   map-byte : (i : ℕ) → i < 900 → byteAt m i ≡ byteAt n i
   map-byte i h =
       let k = i / 25 in
@@ -62,10 +66,36 @@ module _ (m n : List ℕ) (f : Bytes m) (g : Bytes n) (p : mapsFrom m ≡ mapsFr
       let e = sym (request-is m k b) ∙ ap (λ q. getD q k noRequest) r ∙ request-is n k b in
       rw z at (request-byte m n (requestStart k) (j % 18) e t)
 
-  unused-byte : (i : ℕ) → 1597 ≤ i → i < 1891 → byteAt m i ≡ byteAt n i
+  alarm-byte : (i : ℕ) → 1597 ≤ i → i < 1605 → byteAt m i ≡ byteAt n i
+  alarm-byte i h l =
+      let j = i - 1597 in
+      let k = j / 2 in
+      let b : k < 4 = omega arith in
+      let e = sym (alarm-is m k b) ∙ ap (λ l. getD l k noAlarm) v ∙ alarm-is n k b in
+      go (eqb (j % 2) 0) refl e
+    where
+      go : (w : Bool) → eqb ((i - 1597) % 2) 0 ≡ w → alarmFrom m (alarmStart ((i - 1597) / 2)) ≡ alarmFrom n (alarmStart ((i - 1597) / 2))
+          → byteAt m i ≡ byteAt n i
+      go true d e =
+          let c = eqb-true ((i - 1597) % 2) 0 d in
+          let z : alarmStart ((i - 1597) / 2) ≡ i = omega arith in
+          rw z at (ap (λ (a : Alarm). a .on) e)
+      go false d e =
+          let c = eqb-false ((i - 1597) % 2) 0 d in
+          let z : alarmStart ((i - 1597) / 2) + 1 ≡ i = omega (arith, c) in
+          rw z at (ap (λ (a : Alarm). a .held) e)
+
+  unused-byte : (i : ℕ) → 1605 ≤ i → i < 1891 → byteAt m i ≡ byteAt n i
   unused-byte i h l =
-      let z : 1597 + (i - 1597) ≡ i = omega arith in
-      rw z at (part-byte m n 1597 294 (i - 1597) q (omega arith))
+      let z : 1605 + (i - 1605) ≡ i = omega arith in
+      rw z at (part-byte m n 1605 286 (i - 1605) q (omega arith))
+
+  last-byte : (i : ℕ) → 1597 ≤ i → i < 1891 → byteAt m i ≡ byteAt n i
+  last-byte i h l = go (ltb i 1605) refl
+    where
+      go : (b : Bool) → ltb i 1605 ≡ b → byteAt m i ≡ byteAt n i
+      go true e = alarm-byte i h (ltb-true i 1605 e)
+      go false e = unused-byte i (ltb-false i 1605 e) l
 
   rest-byte : (i : ℕ) → 1189 ≤ i → i < 1891 → byteAt m i ≡ byteAt n i
   rest-byte i h l = go (ltb i 1201) refl (ltb i 1597) refl
@@ -73,7 +103,7 @@ module _ (m n : List ℕ) (f : Bytes m) (g : Bytes n) (p : mapsFrom m ≡ mapsFr
       go : (b : Bool) → ltb i 1201 ≡ b → (c : Bool) → ltb i 1597 ≡ c → byteAt m i ≡ byteAt n i
       go true e c d = times-byte m n f g t i h (ltb-true i 1201 e)
       go false e true d = predictions-byte m n f g k i (ltb-false i 1201 e) (ltb-true i 1597 d)
-      go false e false d = unused-byte i (ltb-false i 1597 d) l
+      go false e false d = last-byte i (ltb-false i 1597 d) l
 
   after-maps : (i : ℕ) → 900 ≤ i → i < 1891 → byteAt m i ≡ byteAt n i
   after-maps i h l = go (ltb i 901) refl (ltb i 1189) refl
@@ -97,17 +127,19 @@ pub one-tool : (a b c d : List ℕ) → length a ≡ 1891 → length b ≡ 1891 
     → wholeIn (a ∷ b ∷ []) ≡ wholeIn (c ∷ d ∷ []) → _≡_ {A = List (List ℕ)} (a ∷ b ∷ []) (c ∷ d ∷ [])
 one-tool a b c d p q r s f g e =
     rw (
-      one-image a c (ap (λ t. t .layered .queued .mapped .base) e) p r,
-      one-block b d f g (ap (λ t. t .layered .queued .mapped .maps) e) (ap (λ t. t .layered .queued .waiting) e)
-          (ap (λ t. t .layered .queued .queue) e) (ap (λ t. t .layered .times) e) (ap (λ t. t .layered .predictions) e) (ap (λ t. t .unused) e) q s,
+      one-image a c (ap (λ t. t .layered .predicted .queued .mapped .base) e) p r,
+      one-block b d f g (ap (λ t. t .layered .predicted .queued .mapped .maps) e) (ap (λ t. t .layered .predicted .queued .waiting) e)
+          (ap (λ t. t .layered .predicted .queued .queue) e) (ap (λ t. t .layered .predicted .times) e) (ap (λ t. t .layered .predicted .predictions) e) (ap (λ t. t .layered .alarms) e)
+          (ap (λ t. t .unused) e) q s,
     )
 
 -- the same in every byte, of any two that are read alike
 pub first-bytes : (a b : List (List ℕ)) → wholeIn a ≡ wholeIn b → (i : ℕ) → i < 1891 → byteAt (getD a 0 []) i ≡ byteAt (getD b 0 []) i
-first-bytes a b e = each-byte (getD a 0 []) (getD b 0 []) (ap (λ t. t .layered .queued .mapped .base) e)
+first-bytes a b e = each-byte (getD a 0 []) (getD b 0 []) (ap (λ t. t .layered .predicted .queued .mapped .base) e)
 
 pub second-bytes : (a b : List (List ℕ)) → Bytes (getD a 1 []) → Bytes (getD b 1 []) → wholeIn a ≡ wholeIn b
     → (i : ℕ) → i < 1891 → byteAt (getD a 1 []) i ≡ byteAt (getD b 1 []) i
 second-bytes a b f g e =
-    block-byte (getD a 1 []) (getD b 1 []) f g (ap (λ t. t .layered .queued .mapped .maps) e) (ap (λ t. t .layered .queued .waiting) e)
-    (ap (λ t. t .layered .queued .queue) e) (ap (λ t. t .layered .times) e) (ap (λ t. t .layered .predictions) e) (ap (λ t. t .unused) e)
+    block-byte (getD a 1 []) (getD b 1 []) f g (ap (λ t. t .layered .predicted .queued .mapped .maps) e) (ap (λ t. t .layered .predicted .queued .waiting) e)
+    (ap (λ t. t .layered .predicted .queued .queue) e) (ap (λ t. t .layered .predicted .times) e) (ap (λ t. t .layered .predicted .predictions) e) (ap (λ t. t .layered .alarms) e)
+    (ap (λ t. t .unused) e)

@@ -4,21 +4,21 @@ use mathlib.Core.Logic.{_≢_}
 use mathlib.Core.Bool.{Bool, true, false, cond}
 use lib.Dec.{eqb}
 use Rattle.rules.specs.Reports.{noReports}
-use Rattle.prediction.specs.State.{PredictedTool, stateOf}
-use Rattle.prediction.specs.Outcome.{Given, accepted}
-use Rattle.prediction.specs.Outcome as prediction
-use Rattle.wafers.specs.Outcome.{Brought, answerIn, stateAfter, reportsIn, givenIn}
+use Rattle.wafers.specs.Outcome.{Brought}
+use Rattle.hands.specs.State.{HandledTool, stateOf}
+use Rattle.hands.specs.Outcome as hands
+use Rattle.hands.specs.Outcome.{Given, accepted, answerIn, stateAfter, reportsIn, givenIn}
 use Rattle.tool.specs.Whole.{Whole, soundWhole, refused, around, Outcome, outcome}
 
 -- what isn't answered with 0 leaves the tool, and reports nothing
-given-refuses : (t : PredictedTool) (i : Brought) → givenIn t i .answer ≢ 0 → (givenIn t i .tool ≡ t) × (givenIn t i .reports ≡ noReports)
+given-refuses : (t : HandledTool) (i : Brought) → givenIn t i .answer ≢ 0 → (givenIn t i .tool ≡ t) × (givenIn t i .reports ≡ noReports)
 unfolding givenIn
 given-refuses t i = go (eqb (answerIn (stateOf t) i) 0)
   where
     Refuses : Given → Type 0
     Refuses g = g .answer ≢ 0 → (g .tool ≡ t) × (g .reports ≡ noReports)
 
-    go : (w : Bool) → Refuses (cond w (accepted (stateAfter (stateOf t) i) (reportsIn (stateOf t) i)) (prediction.refused t (answerIn (stateOf t) i)))
+    go : (w : Bool) → Refuses (cond w (accepted (stateAfter (stateOf t) i) (reportsIn (stateOf t) i)) (hands.refused t (answerIn (stateOf t) i)))
     go true n = absurd (n refl)
     go false n = (refl, refl)
 

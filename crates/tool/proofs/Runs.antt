@@ -12,11 +12,12 @@ use Rattle.lists.proofs.Bools.{and-l, and-r, and-i}
 use Rattle.rules.specs.declared.tool.Setup as base-setup
 use Rattle.rules.specs.State as base
 use Rattle.passes.specs.Passes.{isZero}
-use Rattle.prediction.specs.State.{stateOf, start}
-use Rattle.prediction.specs.Sound.{isSpan, soundTool}
-use Rattle.prediction.proofs.SoundTools.{setup-sound, setup-state}
-use Rattle.wafers.specs.Outcome.{Brought, stateAfter, reached}
-use Rattle.wafers.proofs.SoundTools.{given-state, given-sound}
+use Rattle.prediction.specs.Sound.{isSpan}
+use Rattle.wafers.specs.Outcome.{Brought}
+use Rattle.hands.specs.State.{stateOf, start}
+use Rattle.hands.specs.Sound.{soundTool}
+use Rattle.hands.specs.Outcome.{stateAfter, reached}
+use Rattle.hands.proofs.SoundTools.{setup-sound, setup-state, given-state, given-sound}
 use Rattle.tool.specs.Whole.{Whole, soundWhole, Setup, fresh, setUp, outcome, reachedWhole}
 use Rattle.tool.proofs.Tested.{when-sound}
 
@@ -83,7 +84,7 @@ module _ (P B setting timeout : ℕ) where
 
     pub tool-sound : (past : List Brought) → soundWhole (reachedWhole tool past) ≡ true
     unfolding reachedWhole soundWhole
-    tool-sound [] = rw (tool-is (fine yes)) (and-i (setup-sound P B setting timeout below spans) (zeros-zero 294))
+    tool-sound [] = rw (tool-is (fine yes)) (and-i (setup-sound P B setting timeout below spans) (zeros-zero 286))
     tool-sound (i ∷ earlier) = sound-after (reachedWhole tool earlier) i (tool-sound earlier)
 
     pub tool-holds : (past : List Brought) → stateOf (reachedWhole tool past .layered) ≡ reached (start P B setting timeout) past

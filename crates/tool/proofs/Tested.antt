@@ -35,8 +35,16 @@ use Rattle.queued.specs.Bytes.{queuedIn}
 use Rattle.prediction.specs.declared.prediction.Prediction.{Prediction}
 use Rattle.prediction.specs.declared.prediction.Times.{Times}
 use Rattle.prediction.specs.State.{PredictedTool}
-use Rattle.prediction.specs.Sound.{timesInRange, soundTool}
-use Rattle.wafers.specs.Outcome.{Brought, givenIn}
+use Rattle.prediction.specs.Sound.{timesInRange}
+use Rattle.prediction.specs.Sound as prediction
+use Rattle.wafers.specs.Outcome.{Brought}
+use Rattle.hands.specs.declared.alarm.Alarm.{Alarm}
+use Rattle.hands.specs.State.{HandledTool}
+use Rattle.hands.specs.Sound.{soundTool}
+use Rattle.hands.specs.Outcome.{givenIn}
+use Rattle.handled.specs.Bytes.{alarmsFrom, handledIn}
+use Rattle.handled.specs.Tests.{soundAlarms}
+use Rattle.handled.proofs.Tested.{alarms-tested}
 use Rattle.times.specs.Bytes.{timesFrom, predictionsFrom}
 use Rattle.times.specs.Tests.{soundPredictions}
 use Rattle.times.proofs.Tested.{predictions-tested}
@@ -75,37 +83,39 @@ queue-tested t long = go (maps.soundTool (t .mapped)) refl
     go false e = sym (unsound-below t e)
 
 pub base-unsound : (m : List (List ℕ)) → base-sound.soundTool (mappedIn m .base) ≡ false → false ≡ soundWhole (wholeIn m)
-unfolding soundWhole soundTool queue.soundTool maps.soundTool
+unfolding soundWhole soundTool prediction.soundTool queue.soundTool maps.soundTool
 base-unsound m h = rw h
 
 -- the times and the predictions, with a queue that is sound or not
-unsound-queue : (t : PredictedTool) → queue.soundTool (t .queued) ≡ false → soundTool t ≡ false
-unfolding soundTool
+unsound-queue : (t : PredictedTool) → queue.soundTool (t .queued) ≡ false → prediction.soundTool t ≡ false
+unfolding prediction.soundTool
 unsound-queue t e = rw e
 
 times-tested : (m : List (List ℕ)) (z : Bool)
     → (queue.soundTool (queuedIn m) && timesInRange (timesFrom (ownIn m))
     && soundPredictions (base.stateOf (mappedIn m .base)) (mappedIn m .base .count) (predictionsFrom (ownIn m)) && z)
-    ≡ (soundTool (predictedIn m) && z)
+    ≡ (prediction.soundTool (predictedIn m) && z)
 times-tested m z = go (queue.soundTool (queuedIn m)) refl
   where
     go : (w : Bool) → queue.soundTool (queuedIn m) ≡ w
         → (w && timesInRange (timesFrom (ownIn m))
         && soundPredictions (base.stateOf (mappedIn m .base)) (mappedIn m .base .count) (predictionsFrom (ownIn m)) && z)
-        ≡ (soundTool (predictedIn m) && z)
+        ≡ (prediction.soundTool (predictedIn m) && z)
     go true e = ap (λ b. b && z) (predictions-tested (predictedIn m) e)
     go false e = rw (unsound-queue (predictedIn m) e)
 
-pub whole-tested : (m : List (List ℕ)) (b c d e : Bool) → b ≡ maps.soundTool (mappedIn m)
+pub whole-tested : (m : List (List ℕ)) (b c d e f : Bool) → b ≡ maps.soundTool (mappedIn m)
     → c ≡ soundLine (base.stateOf (mappedIn m .base)) (waitingIn (ownIn m)) (queueFrom (ownIn m))
     → d ≡ timesInRange (timesFrom (ownIn m))
     → e ≡ soundPredictions (base.stateOf (mappedIn m .base)) (mappedIn m .base .count) (predictionsFrom (ownIn m))
-    → (b && c && d && e && every isZero (bytesFrom (ownIn m) 1597 294)) ≡ soundWhole (wholeIn m)
+    → f ≡ soundAlarms (mappedIn m .base) (alarmsFrom (ownIn m))
+    → (b && c && d && e && f && every isZero (bytesFrom (ownIn m) 1605 286)) ≡ soundWhole (wholeIn m)
 unfolding soundWhole
-whole-tested m b c d e p q r s =
-    rw (p, q, r, s, queue-tested (queuedIn m) (queue-long (ownIn m))) (times-tested m (every isZero (bytesFrom (ownIn m) 1597 294)))
+whole-tested m b c d e f p q r s t =
+    rw (p, q, r, s, t, queue-tested (queuedIn m) (queue-long (ownIn m)))
+    (ap (λ w. w && every isZero (bytesFrom (ownIn m) 1605 286)) (times-tested m (soundAlarms (mappedIn m .base) (alarmsFrom (ownIn m))) ∙ alarms-tested m))
 
-pub layered-sound : (m : List (List ℕ)) → soundWhole (wholeIn m) ≡ true → soundTool (predictedIn m) ≡ true
+pub layered-sound : (m : List (List ℕ)) → soundWhole (wholeIn m) ≡ true → soundTool (handledIn m) ≡ true
 unfolding soundWhole
 layered-sound m h = and-l _ _ h
 
@@ -118,14 +128,14 @@ unfolding outcome
 when-not t i h = rw h
 
 -- the bytes that the layers leave alone
-pub unused-after : {o e : ℕ} (m n : List ℕ) → KeptOutside o e m n → e ≤ 1597 → bytesFrom n 1597 294 ≡ bytesFrom m 1597 294
-unused-after m n k l = table-same 294 _ _ (λ i h. k .after _ (omega arith))
+pub unused-after : {o e : ℕ} (m n : List ℕ) → KeptOutside o e m n → e ≤ 1605 → bytesFrom n 1605 286 ≡ bytesFrom m 1605 286
+unused-after m n k l = table-same 286 _ _ (λ i h. k .after _ (omega arith))
 
-pub whole-of : (m : List (List ℕ)) (t : PredictedTool) (u : List ℕ) → predictedIn m ≡ t → bytesFrom (ownIn m) 1597 294 ≡ u
+pub whole-of : (m : List (List ℕ)) (t : HandledTool) (u : List ℕ) → handledIn m ≡ t → bytesFrom (ownIn m) 1605 286 ≡ u
     → wholeIn m ≡ record { layered = t; unused = u }
 whole-of m t u p q = rw (p, q)
 
-pub whole-made : (m : List (List ℕ)) {q : QueuedTool} {t : Times} {p : List Prediction} {u : List ℕ} → queuedIn m ≡ q
-    → timesFrom (ownIn m) ≡ t → predictionsFrom (ownIn m) ≡ p → bytesFrom (ownIn m) 1597 294 ≡ u
-    → wholeIn m ≡ record { layered = record { queued = q; times = t; predictions = p }; unused = u }
-whole-made m a b c d = rw (a, b, c, d)
+pub whole-made : (m : List (List ℕ)) {q : QueuedTool} {t : Times} {p : List Prediction} {l : List Alarm} {u : List ℕ} → queuedIn m ≡ q
+    → timesFrom (ownIn m) ≡ t → predictionsFrom (ownIn m) ≡ p → alarmsFrom (ownIn m) ≡ l → bytesFrom (ownIn m) 1605 286 ≡ u
+    → wholeIn m ≡ record { layered = record { predicted = record { queued = q; times = t; predictions = p }; alarms = l }; unused = u }
+whole-made m a b c d e = rw (a, b, c, d, e)

@@ -14,21 +14,23 @@ use Rattle.passes.specs.Passes.{isZero}
 use Rattle.maps.specs.State.{noMaps}
 use Rattle.mapped.specs.Bytes.{ownIn}
 use Rattle.queue.specs.State.{noRequests}
-use Rattle.prediction.specs.State.{PredictedTool, noPredictions}
-use Rattle.prediction.specs.Sound.{isSpan, soundTool}
-use Rattle.prediction.specs.Outcome.{Given}
-use Rattle.predicted.specs.Bytes.{predictedIn}
-use Rattle.wafers.specs.Outcome.{Brought, givenIn}
+use Rattle.prediction.specs.State.{noPredictions}
+use Rattle.prediction.specs.Sound.{isSpan}
+use Rattle.wafers.specs.Outcome.{Brought}
+use Rattle.hands.specs.State.{HandledTool, noAlarms}
+use Rattle.hands.specs.Sound.{soundTool}
+use Rattle.hands.specs.Outcome.{Given, givenIn}
+use Rattle.handled.specs.Bytes.{handledIn}
 
--- Document 01's tool with the expected maps, the queue, the times and the predictions, and the bytes that no request uses.
+-- Document 01's tool with the expected maps, the queue, the times, the predictions and the alarms, and the bytes that no request uses.
 pub record Whole : Type 0 where
-  pub layered : PredictedTool
+  pub layered : HandledTool
   pub unused : List ℕ
 
 -- In bytes it is two blocks of 1,891: document 01's tool; then 900 bytes of maps, 289 of the queue, 12 of times, 396 of predictions,
--- and 294 unused ones.
+-- 8 of alarms, and 286 unused ones.
 abbrev pub wholeIn : List (List ℕ) → Whole
-wholeIn m = record { layered = predictedIn m; unused = bytesFrom (ownIn m) 1597 294 }
+wholeIn m = record { layered = handledIn m; unused = bytesFrom (ownIn m) 1605 286 }
 
 -- Unused bytes are zero.
 unfoldable pub soundWhole : Whole → Bool
@@ -39,15 +41,18 @@ pub record Setup : Type 0 where
   pub tool : Whole
   pub answer : ℕ
 
--- nothing but a setting time and a timeout beside document 01's tool: no map, no request, no prediction, and the clock at 0
+-- nothing but a setting time and a timeout beside document 01's tool: no map, no request, no prediction, no alarm, and the clock at 0
 abbrev pub fresh : Tool → ℕ → ℕ → Whole
 fresh t setting timeout = record {
   layered = record {
-    queued = record { mapped = record { base = t; maps = noMaps }; waiting = 0; queue = noRequests };
-    times = record { now = 0; setting = setting; timeout = timeout };
-    predictions = noPredictions;
+    predicted = record {
+      queued = record { mapped = record { base = t; maps = noMaps }; waiting = 0; queue = noRequests };
+      times = record { now = 0; setting = setting; timeout = timeout };
+      predictions = noPredictions;
+    };
+    alarms = noAlarms;
   };
-  unused = replicate 294 0;
+  unused = replicate 286 0;
 }
 
 -- As in document 01, and refused too where the setting time or the timeout is longer than a day; then it is all zeros.

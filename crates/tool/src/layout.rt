@@ -1,7 +1,7 @@
 // What no request uses of the second block.
+use handled::layout::ALARMS_END;
 use image::layout::TOOL_BYTES;
-use times::layout::PREDICTIONS_END;
 
-pub const UNUSED_START: usize = PREDICTIONS_END;
+pub const UNUSED_START: usize = ALARMS_END;
 
 pub const UNUSED_BYTES: usize = TOOL_BYTES - UNUSED_START;

@@ -9,6 +9,8 @@ ghost use Rattle.wafers.specs.Outcome.{bringing};
 ghost use Rattle.tool.specs.Whole.{wholeIn, soundWhole, setUp, outcome};
 use crate::layout::*;
 use follow::blocks::BLOCKS;
+use handled::sound::sound_alarms;
+use handled::step::handled_step;
 use image::layout::*;
 use image::read::count;
 use image::report::no_reports;
@@ -24,7 +26,6 @@ use times::sound::sound_predictions;
 use times::sound::sound_times;
 use times::words::SPAN_MOST;
 use times::write::put_spans;
-use wafers::step::brought_step;
 
 // Whether all of it is sound: the one place where this is tested.
 pub fn whole_sound(m: &[[u8; TOOL_BYTES]; BLOCKS]) -> bool
@@ -36,7 +37,8 @@ pub fn whole_sound(m: &[[u8; TOOL_BYTES]; BLOCKS]) -> bool
         let queue = sound_queue(m);
         let times = sound_times(&m[1]);
         let predictions = sound_predictions(m);
-        maps & queue & times & predictions & zeros(&m[1], UNUSED_START, UNUSED_BYTES)
+        let alarms = sound_alarms(m);
+        maps & queue & times & predictions & alarms & zeros(&m[1], UNUSED_START, UNUSED_BYTES)
     } else {
         false
     }
@@ -101,7 +103,7 @@ pub fn whole_step(
         (bringing (timed (inputOf number port value (now (name .entry)) (now (codes .entry))) clock time) wafers) .answer ⌝ }
 {
     if whole_sound(m) {
-        brought_step(m, o, number, port, value, name, codes, clock, time, wafers)
+        handled_step(m, o, number, port, value, name, codes, clock, time, wafers)
     } else {
         no_reports(o);
         1

@@ -17,9 +17,11 @@ use Rattle.prediction.specs.declared.prediction.Times.{Times}
 use Rattle.times.specs.Bytes.{timesFrom, predictionsFrom}
 use Rattle.times.proofs.Kept.{predictions-after}
 use Rattle.predicted.proofs.Clocked.{queued-same}
+use Rattle.handled.specs.Bytes.{alarmsFrom}
+use Rattle.handled.proofs.Laid.{alarms-same}
 use Rattle.tool.specs.Whole.{Setup}
 use Rattle.tool.proofs.Tested.{unused-after, whole-made}
-use Rattle.tool.proofs.Blank.{zeros, none-used, no-times, no-predictions, queued-made}
+use Rattle.tool.proofs.Blank.{zeros, none-used, no-times, no-predictions, no-alarms, queued-made}
 use Rattle.tool.proofs.Accepts.{ports, spans, accepted-is, refused-is}
 use Rattle.tool.proofs.whole.whole_setup.Statement.{statement}
 use Rattle.tool.proofs.whole.whole_setup.Tie as tie
@@ -82,7 +84,8 @@ returns c =
     (ap timesFrom there ∙ c .put-spans .ensures .0
     ∙ ap (λ k. record { now = k; setting = a .setting; timeout = a .timeout }) (ap (λ b. timesFrom b .now) (own-is u) ∙ ap (λ (t : Times). t .now) no-times))
     (ap predictionsFrom there ∙ predictions-after 1193 1201 zeros v kept (omega arith) ∙ no-predictions)
-    (ap (λ b. bytesFrom b 1597 294) there ∙ unused-after zeros v kept (omega arith) ∙ none-used 1597 294) in
+    (ap alarmsFrom there ∙ alarms-same zeros v (λ j b c. kept .after j (omega arith)) ∙ no-alarms)
+    (ap (λ b. bytesFrom b 1605 286) there ∙ unused-after zeros v kept (omega arith) ∙ none-used 1605 286) in
     (t ∙ ap (λ (x : Setup). x .tool) x, ap (λ (x : Setup). x .answer) x)
 
 returns-2 : tie.Need-returns-2
@@ -92,7 +95,8 @@ returns-2 c =
     let e = n u in
     let x = refused-is (a .ports) (a .places) (a .setting) (a .timeout) (λ z. c .if1 .left (answered u ∙ z)) in
     let t = whole-made e (queued-made e (tool-is u) (own-is u)) (ap timesFrom (own-is u) ∙ no-times)
-    (ap predictionsFrom (own-is u) ∙ no-predictions) (ap (λ b. bytesFrom b 1597 294) (own-is u) ∙ none-used 1597 294) in
+    (ap predictionsFrom (own-is u) ∙ no-predictions) (ap alarmsFrom (own-is u) ∙ no-alarms)
+    (ap (λ b. bytesFrom b 1605 286) (own-is u) ∙ none-used 1605 286) in
     (t ∙ ap (λ (x : Setup). x .tool) x, answered u ∙ ap (λ (x : Setup). x .answer) x)
 
 pub whole-setup-spec : {M : Type 1} → statement M

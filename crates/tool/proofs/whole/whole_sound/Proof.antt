@@ -37,7 +37,8 @@ sound-maps-requires c κs =
 
 returns : tie.Need-returns
 returns c =
-    let p = c .before .before in
+    let l = c .before .before in
+    let p = l .before in
     let t = p .before in
     let q = t .before .before in
     let k = q .before in
@@ -48,7 +49,7 @@ returns c =
     let e = k .sound-maps .ensures
     ∙ ap (λ n. every isKept (take n (mapsFrom (ownIn m))) && every isNone (drop n (mapsFrom (ownIn m)))) n
     ∙ maps-tested (toolFrom (getD m 0 [])) (ownIn m) (sound u) (held u) in
-    rw (c .zeros .ensures) (whole-tested m _ _ _ _ e (q .sound-queue .ensures) (t .sound-times .ensures) (p .sound-predictions .ensures))
+    rw (c .zeros .ensures) (whole-tested m _ _ _ _ _ e (q .sound-queue .ensures) (t .sound-times .ensures) (p .sound-predictions .ensures) (l .sound-alarms .ensures))
 
 returns-2 : tie.Need-returns-2
 returns-2 c = base-unsound (c .before .before .before .args .m .now) (sym (c .before .sound .ensures) ∙ c .if1 .left)
@@ -58,4 +59,4 @@ whole-sound-spec =
     tie.close
     (tie.spec (λ c. search needs) (λ c κs. tt) (λ c. search needs) (λ c κs. tt) (λ c κs. tt) (λ c. search needs) sound-maps-requires
     (λ c κs. held (c .before .before .before .before .before)) (λ c. search needs) (λ c κs. tt)
-    (λ c κs. held (c .before .before .before .before .before .before .before .before)) (λ c. search needs) (λ c κs. search needs) returns returns-2)
+    (λ c κs. held (c .before .before .before .before .before .before .before .before)) (λ c κs. tt) (λ c. search needs) (λ c κs. search needs) returns returns-2)
