@@ -22,9 +22,10 @@ pub(crate) enum Refusal {
     // The two that P5 adds; no row of document 01 gives them.
     QueueFull = 9,
     AlreadyQueued = 10,
-    // The one of P7, and the one of P8.
+    // Those of P7, P8 and P9.
     ClockEarlier = 11,
     NoTp = 12,
+    AutomaticInManual = 13,
 }
 
 use Refusal::*;

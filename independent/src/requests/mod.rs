@@ -2,8 +2,8 @@
 //!
 //! An input goes through the requests first, which may refuse it or have a row of their own for it, then
 //! to document 01's row, then through the requests again, which may change what the row did. The reports are the differences
-//! between the state before all of this and the state after it, but for those of model 8, which are told in turn. So far
-//! these have come:
+//! between the state before all of this and the state after it, but for those of model 8, which are told in turn. Those of
+//! model 9 stand last. So far these have come:
 //!
 //! - P1, slot maps the tool can judge: `maps`.
 //! - P4, names padded with blanks: [`names`].
@@ -13,7 +13,9 @@
 //! - P5, a queue for CarrierOut: [`queue`], which has rows of its own and takes row 7 over.
 //! - P7, prediction of ready to unload: [`predict`], which has rows that bring the clock.
 //! - P8, where Tp comes from: [`wafers`], which gives Tp as a total of times.
+//! - P9, hands on an AUTO port: [`alarms`], which has a row of its own, and LoadDone where the alarm is on.
 
+pub mod alarms;
 mod maps;
 pub mod names;
 pub mod predict;
@@ -26,18 +28,19 @@ mod waiting;
 
 use crate::rows::{row, Outcome, Refusal, Result};
 use crate::sound::all_zero;
-use crate::state::{Plain, Reports, MAP_LEN, MAX_CARRIERS};
+use crate::state::{Plain, Reports, MAP_LEN, MAX_CARRIERS, MAX_PORTS};
 
+use alarms::{Alarm, Alarms};
 use predict::Predictions;
 use queue::Queue;
 
 pub use waiting::waiting;
 
 /// How many inputs there are, numbered from 1.
-pub const INPUTS: u32 = 35;
+pub const INPUTS: u32 = 36;
 
 /// The bytes of a tool that no request has taken yet.
-pub const UNUSED: usize = 294;
+pub const UNUSED: usize = 286;
 
 #[derive(Clone, Copy, PartialEq, Eq, Debug)]
 #[repr(C)]
@@ -51,6 +54,8 @@ pub struct Tool {
     pub queue: Queue,
     /// The clock, setting time and timeout, and the prediction of each record.
     pub predictions: Predictions,
+    /// The alarm of each port, and whether it holds a pod.
+    pub alarms: Alarms,
     pub unused: [u8; UNUSED],
 }
 
@@ -68,6 +73,7 @@ impl Tool {
         maps: [[0; MAP_LEN]; MAX_CARRIERS],
         queue: Queue::EMPTY,
         predictions: Predictions::NONE,
+        alarms: [Alarm::NONE; MAX_PORTS],
         unused: [0; UNUSED],
     };
 
@@ -91,7 +97,12 @@ pub fn setup(p: u32, b: u32, setting: u32, timeout: u32, t: &mut Tool) -> u32 {
 
 /// Whether the state is sound: to document 01, and to each request.
 pub fn sound(t: &Tool) -> bool {
-    crate::sound(&t.base) && maps::sound(t) && queue::sound(t) && predict::sound(t) && all_zero(&t.unused)
+    crate::sound(&t.base)
+        && maps::sound(t)
+        && queue::sound(t)
+        && predict::sound(t)
+        && alarms::sound(t)
+        && all_zero(&t.unused)
 }
 
 /// Gives the tool an input: 0 if accepted, with the reports in `out`; otherwise the number of the
@@ -197,22 +208,27 @@ fn amended(t: &mut Tool, given: &Given, out: &mut Reports) -> Result<()> {
     let map = maps::given(given)?;
     let name = names::given(given)?;
     wafers::given(given)?;
+    alarms::given(given)?;
     if predict::brings_clock(given.number) {
         return predict::row(t, given, name, out);
     }
-    let touched = match queue::row(t, given, name) {
+    let before = t.alarms;
+    let touched = match queue::row(t, given, name).or_else(|| alarms::row(t, given)) {
         Some(outcome) => outcome?,
         None => amended_row(t, given, name, map)?,
     };
     touched.report(&t.base, out);
     predict::follow(t, given.number, &touched, out);
+    alarms::follow(t, given, &touched);
+    alarms::report(&before, &t.alarms, out);
     Ok(())
 }
 
-/// Document 01's row, with the words on maps and on the queue.
+/// Document 01's row, with the words on maps, on the queue and on how a transfer starts.
 #[inline]
 fn amended_row(t: &mut Tool, given: &Given, name: &[u8], map: [u8; MAP_LEN]) -> Outcome {
     queue::admit(t, given, name)?;
+    alarms::admit(t, given)?;
 
     let touched = row(&mut t.base, given.number, given.port, given.value, name, given.codes)?;
     if let Some((i, _)) = touched.went() {

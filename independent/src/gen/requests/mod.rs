@@ -1,5 +1,6 @@
 //! Inputs and states for the tool with requests: document 01's, and what each request adds.
 
+mod alarms;
 mod befalls;
 mod foretells;
 mod maps;
@@ -9,6 +10,7 @@ mod queue;
 pub mod secs;
 mod tables;
 mod totals;
+mod violates;
 mod wafers;
 
 use std::string::String;
@@ -25,6 +27,7 @@ pub use names::random_text;
 pub use predict::random_times;
 pub use tables::{random_table, LONGEST_TABLE};
 pub use totals::{totals, TOTALS};
+pub use violates::{violates, ALONG_RUNS, VIOLATES};
 pub use wafers::{random_time, totalling, whole, LIMITS};
 
 /// Gives the tool an input, whatever its parts.
@@ -41,9 +44,11 @@ pub fn step(t: &mut Tool, i: &Input, out: &mut Reports) -> u32 {
 /// An input for this state, as a run might meet it.
 pub fn random_run_input(t: &Tool, rng: &mut Rng) -> Input {
     let mut input = predict::draw_input(t, rng)
+        .or_else(|| alarms::draw_input(t, rng))
         .or_else(|| queue::draw_input(t, rng))
         .unwrap_or_else(|| super::random_run_input(&t.base, rng));
     queue::complete(t, &mut input, rng);
+    alarms::complete(t, &mut input, rng);
     predict::complete(t, &mut input, rng);
     maps::complete(t, &mut input, rng);
     names::complete(&mut input, rng);
@@ -57,6 +62,7 @@ pub fn random_sound_tool(rng: &mut Rng) -> Tool {
     maps::draw(&mut t, rng);
     queue::draw(&mut t, rng);
     predict::draw(&mut t, rng);
+    alarms::draw(&mut t, rng);
     assert!(crate::requests::sound(&t), "not sound: {}", describe(&t));
     t
 }
@@ -72,9 +78,10 @@ pub fn damage(t: &mut Tool, rng: &mut Rng) {
             };
             t.unused[at as usize] = rng.pick(&[1, 1, 3, 0x80, 0xFF]);
         }
-        10..=34 => maps::damage(t, rng),
-        35..=64 => queue::damage(t, rng),
-        _ => predict::damage(t, rng),
+        10..=29 => maps::damage(t, rng),
+        30..=54 => queue::damage(t, rng),
+        55..=79 => predict::damage(t, rng),
+        _ => alarms::damage(t, rng),
     }
 }
 
@@ -84,6 +91,7 @@ pub fn describe(t: &Tool) -> String {
     maps::describe(t, &mut out);
     queue::describe(t, &mut out);
     predict::describe(t, &mut out);
+    alarms::describe(t, &mut out);
     if t.unused.iter().any(|&byte| byte != 0) {
         out.push_str("  unused bytes aren't zero\n");
     }

@@ -100,7 +100,7 @@ pub(super) fn complete(t: &Tool, input: &mut Input, rng: &mut Rng) {
         *input = start(t, rng).unwrap_or_else(|| input.clone());
     }
     if rng.chance(2) {
-        input.number = rng.pick(&[7, 27, 27, 28, 28, 29, 29, 30, 35, 36]);
+        input.number = rng.pick(&[7, 27, 27, 28, 28, 29, 29, 30, 35, 37]);
     }
 }
 
