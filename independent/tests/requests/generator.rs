@@ -140,7 +140,7 @@ fn every_kind_is_drawn() {
 fn states_have_maps() {
     let mut rng = Rng::new(8);
     let mut met = [0; 6];
-    for _ in 0..20_000 {
+    for _ in 0..40_000 {
         let t = random_sound_tool(&mut rng);
         let c = t.base.carriers();
         let maps = (0..c.len()).filter(|&i| t.expected_map(i).is_some()).count();

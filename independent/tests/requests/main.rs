@@ -1,5 +1,6 @@
 //! The tool with document 02's requests.
 
+mod alarms;
 #[path = "../common/mod.rs"]
 mod common;
 mod generator;
@@ -7,6 +8,7 @@ mod judged_maps;
 mod kept_maps;
 mod names;
 mod plain;
+mod plain_alarms;
 mod plain_predict;
 mod plain_queue;
 mod plain_wafers;

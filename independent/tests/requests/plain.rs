@@ -6,10 +6,10 @@ use independent::requests::Tool;
 use independent::{Plain, Reports};
 
 use crate::common::{plain_reports, plainly_sound as plainly_sound_before};
-use crate::{plain_predict, plain_queue, plain_wafers};
+use crate::{plain_alarms, plain_predict, plain_queue, plain_wafers};
 
-/// Document 01's words; each record has 0 or 25 codes of 1 and 3; the words on the queue and on
-/// predictions; unused bytes are zero.
+/// Document 01's words; each record has 0 or 25 codes of 1 and 3; the words on the queue, on
+/// predictions and on alarms; unused bytes are zero.
 pub fn plainly_sound(t: &Tool) -> bool {
     plainly_sound_before(&t.base)
         && t.maps.iter().enumerate().all(|(i, map)| {
@@ -23,6 +23,7 @@ pub fn plainly_sound(t: &Tool) -> bool {
         })
         && plain_queue::plainly_sound(t)
         && plain_predict::plainly_sound(t)
+        && plain_alarms::plainly_sound(t)
         && t.unused.iter().all(|&byte| byte == 0)
 }
 
@@ -66,14 +67,18 @@ pub fn plain_step(before: &Tool, i: &Input) -> (u32, Tool, Reports) {
     if let Some(given) = plain_predict::step(before, &i).or_else(|| plain_queue::step(before, &i)) {
         return given;
     }
-    if let Some(refusal) = plain_queue::held(before, &i) {
-        return (refusal, *before, Reports::NONE);
-    }
     let mut base = before.base;
-    let mut reports = Reports::NONE;
-    let answer = independent::step(&mut base, i.number, i.port, i.value, &i.name, &i.codes, &mut reports);
-    if answer != 0 {
-        return (answer, *before, Reports::NONE);
+    let r = plain_alarms::row(before, &i);
+    let of_01 =
+        independent::step(&mut base, r.number, r.port, r.value, &r.name, &r.codes, &mut { Reports::NONE });
+    // The lowest number that applies.
+    let applies = [
+        plain_queue::held(before, &i),
+        plain_alarms::refusal(before, &i),
+        Some(of_01).filter(|&of_01| of_01 != 0),
+    ];
+    if let Some(refusal) = applies.into_iter().flatten().min() {
+        return (refusal, *before, Reports::NONE);
     }
     if i.number == 20 && map_of(before, padded(&i.name)).unwrap() == i.codes {
         base.carrier.iter_mut().find(|c| c.name == padded(&i.name)).unwrap().slot = 3;
@@ -86,6 +91,7 @@ pub fn plain_step(before: &Tool, i: &Input) -> (u32, Tool, Reports) {
     }
     let mut reports = plain_reports(&before.base, &base);
     plain_predict::after(before, &i, &mut after, &mut reports);
+    plain_alarms::after(before, &i, &mut after, &mut reports);
     (0, after, reports)
 }
 

@@ -12,11 +12,12 @@ use independent::{Report, Reports};
 use crate::common::ALLOWED;
 use crate::plain::{plain_name, plain_step, plainly_sound, same};
 
-/// The rows that P5, P7 and P8 change or add, as [`ALLOWED`] has the others. Row 30 is never refused in a sound
+/// The rows that P5, P7, P8 and P9 change or add, as [`ALLOWED`] has the others. Row 30 is never refused in a sound
 /// state, and row 31 has no part that could be out of range.
-const ADDED: [(u32, &[u32]); 11] = [
+const ADDED: [(u32, &[u32]); 13] = [
     (7, &[0, 1, 2, 5, 9, 10]),
-    (13, &[0, 1, 4, 5]),
+    (13, &[0, 1, 4, 5, 13]),
+    (24, &[0, 1, 5, 13]),
     (27, &[0, 1, 4, 5]),
     (28, &[0, 1, 5]),
     (29, &[0, 1, 5]),
@@ -26,6 +27,7 @@ const ADDED: [(u32, &[u32]); 11] = [
     (33, &[0, 1, 2, 5, 11]),
     (34, &[0, 1, 2, 5, 11]),
     (35, &[0, 1, 2, 5, 11, 12]),
+    (36, &[0, 1, 5]),
 ];
 
 /// How often each answer to each row was met, and how often a slot map was OK at once or was asked
@@ -148,7 +150,7 @@ fn every_pair_is_met_and_slot_maps_are_judged() {
             met.inputs, met.at_once, met.asked
         );
         assert!(met.at_once > 200 && met.asked > 200);
-        for (row, answers) in ALLOWED.into_iter().filter(|(row, _)| ![7, 13].contains(row)).chain(ADDED) {
+        for (row, answers) in ALLOWED.into_iter().filter(|(row, _)| ![7, 13, 24].contains(row)).chain(ADDED) {
             for &answer in answers {
                 assert!(met.answers.contains_key(&(row, answer)), "{kind}: row {row} never answers {answer}");
             }

@@ -81,7 +81,7 @@ fn a_map_without_a_record() {
 #[test]
 fn unused_bytes_are_zero() {
     let t = tool(2, 3);
-    for at in 0..294 {
+    for at in 0..286 {
         for value in [1, 3, 0x80, 0xFF] {
             let mut u = t;
             u.unused[at] = value;

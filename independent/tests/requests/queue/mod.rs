@@ -95,16 +95,16 @@ fn layout() {
     assert!(bytes[2828..].iter().all(|&byte| byte == 0));
 }
 
-/// Numbers from 36 on are none. Document 01's own tool has neither the inputs nor the queue.
+/// Numbers from 37 on are none. Document 01's own tool has neither the inputs nor the queue.
 #[test]
 fn numbers_past_the_last() {
     let t = stocked(1, 1, &["A"]);
-    for number in (36..=300).chain([0, 27 + 256, 30 + (1 << 16), 28 + (1 << 31), u32::MAX]) {
+    for number in (37..=300).chain([0, 27 + 256, 30 + (1 << 16), 28 + (1 << 31), u32::MAX]) {
         assert_eq!(answer(&t, number, 1, "A", &[]), 1, "{number}");
     }
     let mut base = t.base;
     let mut out = Reports::NONE;
-    for number in 27..=35 {
+    for number in 27..=36 {
         assert_eq!(independent::step(&mut base, number, 1, 0, b"A", &[], &mut out), 1);
     }
     assert_eq!(independent::step(&mut base, 7, 1, 0, b"A", &[], &mut out), 0);
