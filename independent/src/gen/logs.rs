@@ -6,13 +6,20 @@ use super::{random_run_input, Rng};
 use crate::judge::{fits, Log};
 
 /// The log of a run of so many inputs, all of which a log has room for. Some names are padded with
-/// blanks, which no row takes before any request.
+/// blanks, which no row takes before any request; some starts have a second number, which they don't look at; and some
+/// numbers are those of inputs that requests add.
 pub fn random_log(ports: u8, places: u8, entries: usize, rng: &mut Rng) -> Log {
     let mut log = Log::begin(ports, places);
     while log.entries.len() < entries {
         let mut input = random_run_input(&log.tool, rng);
         if rng.chance(2) {
             input.name.push(b' ');
+        }
+        if matches!(input.number, 13 | 24) && rng.chance(50) {
+            input.value = rng.pick(&[0, 1, 1, 1, 2, 13, 255]);
+        }
+        if rng.chance(1) {
+            input.number = 27 + rng.below(10);
         }
         if fits(&input) {
             log.give(&input);

@@ -183,8 +183,35 @@ fn document_01_before_any_request() {
     for number in [27, 31, 36] {
         assert_eq!(verdict(&[&[&[number, 1, 0, 0, 5, 0]]]), disagrees(0, 7));
     }
-    for second in [0, 1, 2, 255] {
+    for second in 0..=255 {
         assert_eq!(verdict(&[&[&[13, 1, second, 0], STARTED]]), Verdict::Agrees(1));
+        for refused in [1, 13] {
+            assert_eq!(verdict(&[&[&[13, 1, second, 0], &[refused, 0]]]), disagrees(0, 7));
+        }
+    }
+}
+
+/// Starts as they were: access mode restricts none of them, none raises an alarm, LoadDone holds no pod, and Continue
+/// is no input, whatever the second number.
+#[test]
+fn starts_say_neither_manual_nor_automatic() {
+    let to_auto: &[&[u8]] = &[&[9, 1, 1, 0, 0, 1, 2, 1, 0, 1]];
+    for second in 0..=255 {
+        let start: &[&[u8]] = &[&[13, 1, second, 0], STARTED];
+        let done: &[&[u8]] = &[&[14, 1, second, 0, 0, 0]];
+        let again: &[&[u8]] = &[&[14, 1, second, 0, 5, 0]];
+        let unknown: &[&[u8]] = &[&[36, 1, second, 0, 1, 0]];
+        let cancel: &[&[u8]] = &[&[17, 1, 0, 0, 0, 0], &[6, 1, 0, 1, b'A', 0, 5, 1, 1, 3, 2, 4, 1, 0, 1]];
+        let made: &[&[u8]] = &[b"\x05\x01A\x00\x04\x06\x01A\x00\x01\x07\x01A\x00\x01"];
+        let unload: &[&[u8]] = &[&[24, 1, second, 0, 0, 1, 1, 1, 2, 3]];
+        let fail: &[&[u8]] = &[&[26, 1, second, 0, 0, 1, 1, 1, 3, 2]];
+        for mode in [&[][..], to_auto] {
+            let before = if mode.is_empty() { 0 } else { 1 };
+            let all = [mode, unknown, start, unknown, done, unknown, again, cancel, made, unload, fail];
+            assert_eq!(verdict(&all), Verdict::Agrees(before + 10));
+        }
+        let alarm: &[&[u8]] = &[&[13, 1, second, 0, 0, 2, 1, 1, 1, 3, 9, 1, 0, 1]];
+        assert_eq!(verdict(&[to_auto, alarm]), disagrees(1, 17));
     }
 }
 
