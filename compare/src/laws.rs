@@ -4,6 +4,7 @@ use independent::gen::{unpadded, Input};
 use independent::requests::Tool;
 use independent::Plain;
 
+use crate::alarms;
 use crate::machine::{Bridged, Outcome};
 use crate::pairs::may_answer;
 use crate::predict;
@@ -28,6 +29,7 @@ pub fn unlawful(before: &Tool, input: &Input, o: &Outcome) -> Option<String> {
         .or_else(|| badly_judged(before, input, o))
         .or_else(|| queue::unlawful(before, input, o))
         .or_else(|| wafers::unlawful(before, input, o))
+        .or_else(|| alarms::unlawful(before, input, o))
         .or_else(|| predict::unlawful(before, input, o))
 }
 

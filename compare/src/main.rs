@@ -5,6 +5,7 @@
 //! `compare [N]`: some N inputs in each of the large parts; 100,000 where no N is given. Messages are a fifth of N up
 //! to 100,000, and N beyond; messages that are answered, and longer logs, a fourth of these.
 
+mod alarms;
 mod answer;
 mod laws;
 mod machine;
@@ -14,6 +15,7 @@ mod play;
 mod predict;
 mod queue;
 mod script;
+mod shown;
 mod shrink;
 mod table;
 mod tell;
@@ -30,8 +32,8 @@ use machine::{Both, Independent, Proved};
 use parts::judge::Judges;
 use parts::waiting::Looks;
 use parts::{
-    damaged, edges, foretold, judge, maps, messages, names, odd, out, replies, runs, setups, small, states,
-    totalled, twelve, waiting, ways,
+    alarmed, damaged, edges, foretold, judge, maps, messages, names, odd, out, replies, runs, setups, small,
+    states, totalled, twelve, waiting, ways,
 };
 use play::Finding;
 use table::Table;
@@ -101,6 +103,7 @@ fn compare(
     table.befallen = [along_runs.befallen, from_states.befallen];
     table.foretold = [without_buffer.foretold, from_states.foretold];
     table.totalled = [without_buffer.totalled, from_states.totalled];
+    table.violated = [along_runs.violated, from_states.violated];
     table.damage("every byte damaged", &damaged::every_byte(both, total, &mut rng)?);
     table.damage("parts mixed up", &damaged::mixed_up(both, total / 4, &mut rng)?);
     table.damage("random bytes", &damaged::random_bytes(both, total / 8, &mut rng)?);
@@ -124,8 +127,10 @@ fn edges_of_requests(both: &Both, total: u64, table: &mut Table, rng: &mut Rng) 
     table.line("a queue for CarrierOut", &out::compare(both)?);
     table.line("prediction of ready to unload", &foretold::compare(both)?);
     table.line("where Tp comes from", &totalled::compare(both, total / 4, rng)?);
+    table.line("hands on an AUTO port", &alarmed::compare(both)?);
     table.line("every state of small tools with a queue", &small::queues(both)?);
     table.line("every state of small tools that foretell", &small::predictions(both)?);
+    table.line("every state of small tools with alarms", &small::alarms(both)?);
     table.line("set-ups in and out of range", &setups::compare(both, rng)?);
     Ok(())
 }

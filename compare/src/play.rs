@@ -3,6 +3,7 @@
 use independent::gen::Input;
 use independent::requests::Tool;
 
+use crate::alarms::Violated;
 use crate::laws::{padded, unlawful};
 use crate::machine::{Both, Outcome, SetUp};
 use crate::pairs::Pairs;
@@ -37,8 +38,8 @@ pub enum Finding {
 }
 
 /// How many inputs were compared, how many of them were accepted, which pairs were met, how many slot maps
-/// were OK at once, how many accepted inputs had a name with blanks at its end, what befell the queues and the
-/// predictions, and what the wafers were.
+/// were OK at once, how many accepted inputs had a name with blanks at its end, what befell the queues, the
+/// predictions and the alarms, and what the wafers were.
 #[derive(Clone, Copy, Default)]
 pub struct Tally {
     pub inputs: u64,
@@ -49,6 +50,7 @@ pub struct Tally {
     pub befallen: Befallen,
     pub foretold: Foretold,
     pub totalled: Totalled,
+    pub violated: Violated,
 }
 
 impl Tally {
@@ -61,6 +63,7 @@ impl Tally {
         self.befallen.note(before, input, o);
         self.foretold.note(before, input, o);
         self.totalled.note(before, input, o);
+        self.violated.note(before, input, o);
     }
 
     pub fn percent(&self) -> f64 {

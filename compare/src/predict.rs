@@ -91,7 +91,7 @@ fn rows_of(old: u8, new: u8) -> &'static [u32] {
     }
 }
 
-/// Model 8 stands last, and each report of it is a turn that its row may make.
+/// Each report of model 8 stands where its model comes, and is a turn that its row may make.
 fn bad_turn(before: &Tool, input: &Input, o: &Outcome) -> Option<String> {
     if before.base.places > 0 && turns(o).next().is_some() {
         return Some("with a buffer there is no model 8".into());

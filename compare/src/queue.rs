@@ -90,10 +90,12 @@ fn badly_refused(before: &Tool, input: &Input, o: &Outcome) -> Option<String> {
     Some(why.into())
 }
 
-/// Until OutDone: Open on a started carrier is 5, LoadStart and CancelReservationAtPort at its port are 4.
+/// Until OutDone: Open on a started carrier is 5, LoadStart and CancelReservationAtPort at its port are 4. A LoadStart
+/// that is neither manual nor automatic is 1, which is lower.
 fn held(before: &Tool, input: &Input, o: &Outcome) -> Option<String> {
     let mut begun = before.queue.requests().iter().filter(|r| r.started == 1);
     let (holds, answer) = match input.number {
+        13 if input.value > 1 => return None,
         12 | 13 => (begun.any(|r| begun_at(r, input.port)), 4),
         19 => (has_name(&input.name) && begun.any(|r| own(r, input)), 5),
         _ => return None,

@@ -1,6 +1,7 @@
 //! The shortest script that still shows a difference.
 
 use independent::gen::Input;
+use independent::requests::alarms::Alarm;
 use independent::requests::predict::Prediction;
 use independent::requests::queue::{Request, MAX_REQUESTS};
 use independent::requests::Tool;
@@ -300,7 +301,7 @@ fn without(tool: &Tool, i: usize) -> Tool {
     tool
 }
 
-/// A state with fewer requests, records and maps that shows a difference still.
+/// A state with fewer requests, records, maps and alarms that shows a difference still.
 pub fn smallest(tool: &Tool, differs: impl Fn(&Tool) -> bool) -> Tool {
     let mut best = *tool;
     for k in (0..MAX_REQUESTS).rev() {
@@ -319,14 +320,31 @@ pub fn smallest(tool: &Tool, differs: impl Fn(&Tool) -> bool) -> Tool {
             }
         }
     }
-    for i in 0..best.maps.len() {
-        let mut candidate = best;
-        candidate.maps[i] = [0; 25];
+    let plainer = (0..best.maps.len()).map(Plainer::Map).chain((0..best.alarms.len()).map(Plainer::Alarm));
+    for plainer in plainer {
+        let candidate = plainer.of(&best);
         if differs(&candidate) {
             best = candidate;
         }
     }
     best
+}
+
+/// What a state can do without: the map of a record, or the alarm of a port with what is held there.
+enum Plainer {
+    Map(usize),
+    Alarm(usize),
+}
+
+impl Plainer {
+    fn of(&self, tool: &Tool) -> Tool {
+        let mut tool = *tool;
+        match *self {
+            Plainer::Map(i) => tool.maps[i] = [0; 25],
+            Plainer::Alarm(p) => tool.alarms[p] = Alarm::NONE,
+        }
+        tool
+    }
 }
 
 /// A text without the bytes that can be left out, many at a time and then singly, and with an A for each that can be

@@ -2,8 +2,9 @@
 
 use std::process::ExitCode;
 
-use independent::gen::requests::{BEFALLS, FORETELLS, TOTALS};
+use independent::gen::requests::{ALONG_RUNS, BEFALLS, FORETELLS, TOTALS, VIOLATES};
 
+use crate::alarms::Violated;
 use crate::pairs::{allowed, Pairs};
 use crate::parts::damaged::Damage;
 use crate::parts::judge::Logs;
@@ -34,6 +35,8 @@ pub struct Table {
     pub foretold: [Foretold; 2],
     /// What wafers were, along the runs without a buffer and from states.
     pub totalled: [Totalled; 2],
+    /// What befell the alarms, along the runs and from states.
+    pub violated: [Violated; 2],
     /// Inputs that were given by a function that isn't theirs.
     pub by_others: u64,
     pub texts: Texts,
@@ -83,13 +86,16 @@ impl Table {
         let [queues_of_runs, queues_of_states] = self.befallen;
         let [predictions_of_runs, predictions_of_states] = self.foretold;
         let [wafers_of_runs, _] = self.totalled;
-        let parts: [(&str, Vec<String>); 9] = [
+        let [alarms_of_runs, alarms_of_states] = self.violated;
+        let parts: [(&str, Vec<String>); 11] = [
             ("along the runs, row and answer", pairs),
             ("along the runs, by a queue", queues_of_runs.unmet()),
             ("from states, by a queue", queues_of_states.unmet()),
             ("along the runs, by a prediction", predictions_of_runs.unmet()),
             ("from states, by a prediction", predictions_of_states.unmet()),
             ("along the runs, of wafers", wafers_of_runs.unmet()),
+            ("along the runs, by an alarm", alarms_of_runs.unmet_along_runs()),
+            ("from states, by an alarm", alarms_of_states.unmet()),
             ("among the messages", self.messages.unmet()),
             ("among the messages that are answered", self.replies.unmet()),
             ("among the logs", self.logs.unmet()),
@@ -123,6 +129,8 @@ impl Table {
         println!("of {all} things that may befall a prediction {runs} did along the runs, {states} from random sound states");
         let ([runs, states], all) = (self.totalled.map(|totalled| totalled.met()), TOTALS.len());
         println!("of {all} things that wafers may be {runs} were met along the runs, {states} from random sound states");
+        let ([runs, states], all) = (self.violated.map(|violated| violated.met()), VIOLATES.len());
+        println!("of {all} things that may befall an alarm {runs} of {ALONG_RUNS} did along the runs, {states} from random sound states");
         println!("an input gave {most} reports at most");
         println!("{} inputs were given by a function that isn't theirs", self.by_others);
         let Texts { compared, names } = self.texts;
@@ -147,14 +155,19 @@ mod tests {
     #[test]
     fn what_is_not_met_is_told() {
         let lines = Table::default().unmet();
-        assert_eq!(lines.len(), 12, "{lines:?}");
+        assert_eq!(lines.len(), 14, "{lines:?}");
         assert!(lines[1].starts_with("NOT MET along the runs, by a queue: CancelCarrier of"), "{lines:?}");
         assert!(
             lines[3].starts_with("NOT MET along the runs, by a prediction: Tp at the setting"),
             "{lines:?}"
         );
         assert!(lines[5].starts_with("NOT MET along the runs, of wafers: no wafers, one wafer"), "{lines:?}");
-        assert_eq!(lines[8], "NOT MET among the logs: agrees, disagrees, 27, 28, 29");
-        assert_eq!(lines[10], "NO SLOT MAP was OK at once along the runs, or none from states");
+        assert!(
+            lines[6].starts_with("NOT MET along the runs, by an alarm: a manual load in AUTO"),
+            "{lines:?}"
+        );
+        assert!(lines[7].ends_with("LoadDone that holds in MANUAL"), "{lines:?}");
+        assert_eq!(lines[10], "NOT MET among the logs: agrees, disagrees, 27, 28, 29");
+        assert_eq!(lines[12], "NO SLOT MAP was OK at once along the runs, or none from states");
     }
 }

@@ -8,7 +8,8 @@ use independent::Plain;
 
 use crate::machine::{bridged, outcome, set_up, Both, Bridged, Outcome};
 use crate::play::Finding;
-use crate::script::{bytes, field, hex, line, printed, Run};
+use crate::script::{hex, line, printed, Run};
+use crate::shown::{bytes, field};
 use crate::shrink::{plainest, shortest, shortest_text, smallest};
 
 pub fn tell(both: &Both, finding: &Finding) -> String {

@@ -16,8 +16,8 @@ use independent::{Report, Reports};
 
 use crate::machine::{Both, Bridged, Heard, Independent, Machine, Outcome, SetUp, Way};
 use crate::parts::{
-    damaged, edges, foretold, maps, messages, names, odd, out, runs, setups, small, states, totalled, twelve,
-    ways,
+    alarmed, damaged, edges, foretold, maps, messages, names, odd, out, runs, setups, small, states,
+    totalled, twelve, ways,
 };
 use crate::play::{Finding, Player, Tally};
 use crate::script::Run;
@@ -224,8 +224,10 @@ fn first_finding(both: &Both) -> Option<Finding> {
         out::compare(both)?;
         foretold::compare(both)?;
         totalled::compare(both, 5_000, &mut rng)?;
+        alarmed::compare(both)?;
         small::queues(both)?;
         small::predictions(both)?;
+        small::alarms(both)?;
         setups::compare(both, &mut rng)?;
         runs::compare(both, 5_000, &mut rng)?;
         runs::without_buffer(both, 5_000, &mut rng)?;
@@ -382,5 +384,5 @@ fn a_fault_that_no_run_reaches_is_shown_with_the_bytes() {
     let told = tell(&both, &finding);
     assert!(told.contains("\nin 24 ") && told.contains("  head ") && !told.contains("setup"), "{told}");
     assert_eq!(told.matches("  record ").count(), 0, "{told}");
-    assert!(told.contains("proved       5 1 [1 "), "{told}");
+    assert!(told.contains("proved       5 ") && told.contains(" [1 "), "{told}");
 }

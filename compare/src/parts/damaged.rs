@@ -51,7 +51,7 @@ pub fn every_byte(both: &Both, total: u64, rng: &mut Rng) -> Result<Damage, Find
 }
 
 /// Sound tools in which one record or port has a part of another, so that names, places or ties no longer agree; or
-/// in which a map, a request, a prediction, what these need, or a byte that is unused, isn't as it should be.
+/// in which a map, a request, a prediction, an alarm, what these need, or a byte that is unused, isn't as it should be.
 pub fn mixed_up(both: &Both, total: u64, rng: &mut Rng) -> Result<Damage, Finding> {
     let mut damage = Damage::default();
     while damage.tally.inputs < total {
@@ -59,7 +59,7 @@ pub fn mixed_up(both: &Both, total: u64, rng: &mut Rng) -> Result<Damage, Findin
         for _ in 0..8 {
             let mut tool = whole;
             for _ in 0..1 + rng.below(2) {
-                if rng.chance(35) {
+                if rng.chance(45) {
                     damage_requests(&mut tool, rng);
                 } else {
                     mix_up(&mut tool.base, rng);
@@ -99,12 +99,15 @@ fn tool_of(bytes: &[u8]) -> Tool {
     Tool::from_bytes(bytes).expect("as long as a tool")
 }
 
-/// A random sound tool with as many records and requests, some of them started, as some hundred draws give.
+/// A random sound tool with as many records, requests, some of them started, and pods held as some hundred draws give.
 fn fullest(rng: &mut Rng) -> Tool {
     let started = |tool: &Tool| tool.queue.requests().iter().filter(|r| r.started == 1).count();
+    let held = |tool: &Tool| tool.alarms.iter().filter(|alarm| alarm.held == 1).count();
     let draws = (0..400).map(|_| random_sound_tool(rng));
     draws
-        .max_by_key(|tool| tool.base.count as usize + tool.queue.count as usize + 4 * started(tool))
+        .max_by_key(|tool| {
+            tool.base.count as usize + tool.queue.count as usize + 4 * (started(tool) + held(tool))
+        })
         .expect("some draws")
 }
 

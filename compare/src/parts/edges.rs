@@ -25,15 +25,16 @@ const NAMED: [(u32, u32); 17] = [
     (34, 2),
 ];
 
-/// Rows that must have a port, and what each answers just after set-up.
-const PORTED: [(u32, u32); 17] = [
+/// Rows that must have a port, and what each answers just after set-up, to a value of 1. A start is automatic then, and
+/// the port in MANUAL.
+const PORTED: [(u32, u32); 18] = [
     (1, 0),
     (7, 2),
     (9, 0),
     (10, 0),
     (11, 0),
     (12, 5),
-    (13, 0),
+    (13, 13),
     (14, 5),
     (15, 5),
     (16, 5),
@@ -44,6 +45,7 @@ const PORTED: [(u32, u32); 17] = [
     (26, 5),
     (27, 5),
     (28, 5),
+    (36, 5),
 ];
 
 /// Rows that may have a port.

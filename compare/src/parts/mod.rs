@@ -1,5 +1,6 @@
 //! The parts of the comparison. Each gives its inputs to both programs and counts them.
 
+pub mod alarmed;
 pub mod damaged;
 pub mod edges;
 pub mod foretold;
@@ -23,7 +24,7 @@ use independent::gen::Input;
 
 /// Numbers that are near a limit, or that one is tempted to cut short.
 pub const ODD: [u32; 15] =
-    [0, 5, 17, 26, 27, 34, 35, 36, 255, 256, 257, 1 << 16, 1 << 31, (1 << 31) - 1, u32::MAX];
+    [0, 5, 17, 26, 27, 35, 36, 37, 255, 256, 257, 1 << 16, 1 << 31, (1 << 31) - 1, u32::MAX];
 
 /// What a good number becomes where its high bits are lost.
 pub const LOST: [u32; 3] = [1 << 8, 1 << 16, 1 << 31];
@@ -50,6 +51,11 @@ pub fn wafers(clock: u32, name: &[u8], times: &[f64]) -> Input {
 /// An input that names a port alone.
 pub fn at(number: u32, port: u32) -> Input {
     input(number, port, 0, b"", b"")
+}
+
+/// A LoadStart or UnloadStart by a vehicle; by hand it is `at`.
+pub fn automatic(number: u32, port: u32) -> Input {
+    input(number, port, 1, b"", b"")
 }
 
 /// An input that names a carrier alone.

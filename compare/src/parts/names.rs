@@ -89,7 +89,7 @@ fn missing(both: &Both, tally: &mut Tally) -> Result<(), Finding> {
     Ok(())
 }
 
-/// A row that takes no name doesn't look at it, however bad.
+/// A row that takes no name doesn't look at it, however bad. With a value of 1 a start is automatic, and refused in MANUAL.
 fn not_looked_at(both: &Both, tally: &mut Tally) -> Result<(), Finding> {
     let mut player = Player::begin(both, tally, 1, 1)?;
     let rows = [
@@ -97,7 +97,7 @@ fn not_looked_at(both: &Both, tally: &mut Tally) -> Result<(), Finding> {
         (10, 0),
         (11, 0),
         (12, 5),
-        (13, 0),
+        (13, 13),
         (14, 5),
         (15, 5),
         (17, 5),
@@ -109,6 +109,7 @@ fn not_looked_at(both: &Both, tally: &mut Tally) -> Result<(), Finding> {
         (28, 5),
         (30, 0),
         (31, 0),
+        (36, 5),
     ];
     for (row, answer) in rows {
         for text in [&b""[..], b"A ", b" ", b"A B", b"\0", &[b' '; 33], &[0xFF; 300]] {

@@ -33,7 +33,7 @@ fn every_number(both: &Both, tally: &mut Tally) -> Result<(), Finding> {
     player.expect(named(3, b"A"), 0)?;
     for odd in (0..=300).chain(ODD).chain(LOST) {
         player.look(&input(odd, 1, 1, b"A", &[0; 25]))?;
-        for row in [1, 2, 5, 7, 9, 10, 13, 16, 18, 27, 28] {
+        for row in [1, 2, 5, 7, 9, 10, 13, 14, 15, 16, 18, 24, 27, 28, 36] {
             player.look(&input(row, odd, 1, b"A", b""))?;
             player.look(&input(row, 1, odd, b"A", b""))?;
         }

@@ -14,7 +14,8 @@ use independent::Reports;
 use crate::answer::{exchanged, replied, Exchange, Repliers, Reply, Written};
 use crate::machine::{bridged, Independent, Outcome};
 use crate::play::Finding;
-use crate::script::{bytes, hex, printed};
+use crate::script::{hex, printed};
+use crate::shown::bytes;
 use crate::shrink::{shortest_text, smallest};
 use crate::tell::answers;
 

@@ -1,5 +1,5 @@
-//! Every state that a small tool comes to, with a queue or with predictions, and every input of some rows from each of
-//! them.
+//! Every state that a small tool comes to, with a queue, with predictions or with alarms, and every input of some rows
+//! from each of them.
 
 use std::collections::hash_map::DefaultHasher;
 use std::collections::HashSet;
@@ -24,12 +24,12 @@ struct Small {
 }
 
 const SMALL: [Small; 3] = [
-    // All that a single carrier may meet on its way out, and in again.
+    // All that a single carrier may meet on its way out, and in again, by hand and by vehicle.
     Small {
         ports: 1,
         places: 1,
         names: &[b"A"],
-        at_port: &[9, 10, 11, 12, 13, 14, 15, 17, 18, 24, 25, 26, 27, 28],
+        at_port: &[9, 10, 11, 12, 13, 14, 15, 17, 18, 24, 25, 26, 27, 28, 36],
         of_carrier: &[5, 6, 8, 19, 20, 21, 22, 23, 29],
     },
     // Two that wait for one port, or for two, in either order.
@@ -50,8 +50,8 @@ const SMALL: [Small; 3] = [
     },
 ];
 
-/// The rows at a port that have a value: access, service, place.
-const VALUED: [u32; 3] = [9, 10, 18];
+/// The rows at a port that have a value: access, service, manual or automatic, place.
+const VALUED: [u32; 5] = [9, 10, 13, 18, 24];
 
 /// A tool without a buffer whose carriers stand open at ports 1, 2 and so on, verified, and the rows that are given: those
 /// that name a port, then those that name a carrier; and all the clocks, Tps and Tes.
@@ -123,6 +123,43 @@ const FORETELLING: [Foretelling; 5] = [
     },
 ];
 
+/// A tool as it is set up, and the rows that are given: those that name a port, those that name a carrier, and those
+/// that name both.
+struct Alarming {
+    setup: SetUp,
+    names: &'static [&'static [u8]],
+    at_port: &'static [u32],
+    of_carrier: &'static [u32],
+    of_both: &'static [u32],
+}
+
+const ALARMING: [Alarming; 3] = [
+    // All that a port may meet without a buffer, with a carrier that is foretold.
+    Alarming {
+        setup: SetUp { ports: 1, places: 0, setting: 1, timeout: 0 },
+        names: &[b"A"],
+        at_port: &[9, 10, 11, 12, 13, 14, 15, 17, 24, 25, 26, 36],
+        of_carrier: &[5, 6, 19, 20, 21, 22, 23],
+        of_both: &[1, 2, 16],
+    },
+    // Two ports whose alarms come and go beside each other.
+    Alarming {
+        setup: SetUp { ports: 2, places: 0, setting: 0, timeout: 0 },
+        names: &[b"A"],
+        at_port: &[9, 13, 14, 15, 17, 24, 25, 26, 36],
+        of_carrier: &[],
+        of_both: &[6],
+    },
+    // A pod that comes, goes inside and comes out again.
+    Alarming {
+        setup: SetUp { ports: 1, places: 1, setting: 0, timeout: 0 },
+        names: &[b"A"],
+        at_port: &[9, 13, 14, 15, 17, 18, 24, 25, 26, 27, 28, 36],
+        of_carrier: &[6, 8],
+        of_both: &[5, 7, 16],
+    },
+];
+
 pub fn queues(both: &Both) -> Result<Tally, Finding> {
     let mut tally = Tally::default();
     for small in &SMALL {
@@ -137,6 +174,15 @@ pub fn predictions(both: &Both) -> Result<Tally, Finding> {
     for small in &FORETELLING {
         let first = opened(both, &mut tally, small)?;
         every_state(both, &mut tally, first, &told(small))?;
+    }
+    Ok(tally)
+}
+
+pub fn alarms(both: &Both) -> Result<Tally, Finding> {
+    let mut tally = Tally::default();
+    for small in &ALARMING {
+        let first = Player::set_up(both, &mut tally, small.setup)?.tool;
+        every_state(both, &mut tally, first, &by_hand(small))?;
     }
     Ok(tally)
 }
@@ -173,9 +219,26 @@ fn inputs(small: &Small) -> Vec<Input> {
     let mut all = vec![at(30, 0)];
     for port in 1..=small.ports {
         all.extend(small.names.iter().map(|name| input(7, port, 0, name, b"")));
-        for &row in small.at_port {
-            let values = if VALUED.contains(&row) { 0..=1 } else { 0..=0 };
-            all.extend(values.map(|value| input(row, port, value, b"", b"")));
+        all.extend(small.at_port.iter().flat_map(|&row| valued(row, port)));
+    }
+    for name in small.names {
+        all.extend(small.of_carrier.iter().map(|&row| input(row, 0, 0, name, &[3; 25])));
+    }
+    all
+}
+
+/// A row at a port with all its values.
+fn valued(row: u32, port: u32) -> impl Iterator<Item = Input> {
+    let values = if VALUED.contains(&row) { 0..=1 } else { 0..=0 };
+    values.map(move |value| input(row, port, value, b"", b""))
+}
+
+fn by_hand(small: &Alarming) -> Vec<Input> {
+    let mut all = Vec::new();
+    for port in 1..=small.setup.ports {
+        all.extend(small.at_port.iter().flat_map(|&row| valued(row, port)));
+        for name in small.names {
+            all.extend(small.of_both.iter().map(|&row| input(row, port, 0, name, b"")));
         }
     }
     for name in small.names {
@@ -258,11 +321,16 @@ mod tests {
             let first = stocked(&both, &mut tally, &small).unwrap();
             every_state(&both, &mut tally, first, &inputs(&small)).unwrap()
         });
-        assert_eq!(states, [404, 2027, 2475]);
+        assert_eq!(states, [522, 2027, 2475]);
         let states = FORETELLING.map(|small| {
             let first = opened(&both, &mut tally, &small).unwrap();
             every_state(&both, &mut tally, first, &told(&small)).unwrap()
         });
         assert_eq!(states, [1888, 33, 812, 1394, 10808]);
+        let states = ALARMING.map(|small| {
+            let first = Player::set_up(&both, &mut tally, small.setup).unwrap().tool;
+            every_state(&both, &mut tally, first, &by_hand(&small)).unwrap()
+        });
+        assert_eq!(states, [156, 260, 106]);
     }
 }

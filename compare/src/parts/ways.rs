@@ -9,7 +9,8 @@ use super::foretold::{accessed, clock};
 use super::{named, LOST};
 use crate::machine::{outcome, Both, Outcome, SetUp, Way};
 use crate::play::{Finding, Player, Tally};
-use crate::script::{bytes, line};
+use crate::script::line;
+use crate::shown::bytes;
 use crate::tell::answers;
 
 const NAMES: [&[u8]; 4] = [b"A", b"N", b"", b"A "];
@@ -18,7 +19,7 @@ const NAMES: [&[u8]; 4] = [b"A", b"N", b"", b"A "];
 pub fn compare(both: &Both) -> Result<u64, Finding> {
     let mut given = 0;
     for tool in tools(both)? {
-        let numbers = (0..=300).chain(LOST.iter().flat_map(|high| (31..=36).map(move |row| row + high)));
+        let numbers = (0..=300).chain(LOST.iter().flat_map(|high| (31..=37).map(move |row| row + high)));
         for number in numbers {
             for name in NAMES {
                 let times = vec![1.5f64.to_bits(); 2];

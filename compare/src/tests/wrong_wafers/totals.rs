@@ -66,7 +66,7 @@ fn sums_that_lose_something_are_found() {
         after(clock, total.ceil() as f64).filter(|_| all_good(times))
     };
     let thousandths: Tp = |clock, times| {
-        let total: u64 = times.iter().map(|&time| (time * 1000.0) as u64).sum();
+        let total = times.iter().fold(0u64, |sum, &time| sum.saturating_add((time * 1000.0) as u64));
         after(clock, total.div_ceil(1000) as f64).filter(|_| all_good(times))
     };
     let whole_seconds: Tp =
