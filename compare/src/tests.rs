@@ -1,5 +1,6 @@
 //! Programs that are wrong on purpose, and the scripts that must be found for them.
 
+mod wrong_alarms;
 mod wrong_logs;
 mod wrong_maps;
 mod wrong_messages;

@@ -282,6 +282,50 @@ fn other_machines_are_found() {
     assert_ne!(proved, independent);
 }
 
+/// Whether a start is accepted at a port of this access mode, by this second number.
+fn starts(before: &Base, i: &Input, answer: u32, access: u8, value: u32) -> bool {
+    let port = before.ports().get((i.port as usize).wrapping_sub(1));
+    let there = port.is_some_and(|port| port.access == access);
+    [13, 24].contains(&i.number) && answer == 0 && i.value == value && there
+}
+
+/// Judges with P9's rows: a start's second number is looked at, the mode restricts it, an alarm is told, or 36 is an
+/// input.
+#[test]
+fn judges_with_alarms_are_found() {
+    let looks_at_it: Step = |base, i, reports| {
+        let neither = [13, 24].contains(&i.number) && i.value > 1;
+        let number = if neither { 0 } else { i.number };
+        (RIGHT.step)(base, &Input { number, ..i.clone() }, reports)
+    };
+    let restricts: Step = |base, i, reports| {
+        let before = *base;
+        let answer = (RIGHT.step)(base, i, reports);
+        if starts(&before, i, answer, 0, 1) {
+            (*base, *reports) = (before, Reports::NONE);
+            return 13;
+        }
+        answer
+    };
+    let tells: Step = |base, i, reports| {
+        let answer = (RIGHT.step)(base, i, reports);
+        if starts(base, i, answer, 1, 0) {
+            let at = reports.count as usize;
+            reports.items[at] = Report { model: 9, port: i.port as u8, old: 0, new: 1, ..Report::UNUSED };
+            reports.count += 1;
+        }
+        answer
+    };
+    let knows_36: Step = |base, i, reports| {
+        let there = i.number == 36 && (1..=base.ports as u32).contains(&i.port);
+        (RIGHT.step)(base, i, reports) + 4 * there as u32
+    };
+    for step in [looks_at_it, restricts, tells, knows_36] {
+        let (_, proved, independent) = sloppy(Sloppy { step, ..RIGHT });
+        assert_ne!(proved, independent);
+    }
+}
+
 /// Why the documents are against two judges that are wrong alike.
 fn against(wrong: &dyn Fn(&[u8]) -> Said) -> String {
     let Err(Finding::Told(told)) = compared(wrong, wrong) else { panic!("not found") };
