@@ -12,7 +12,7 @@
 set -euo pipefail
 here=$(cd "$(dirname "$0")" && pwd)
 program=${1:-$here/target/${CARGO_BUILD_TARGET:+$CARGO_BUILD_TARGET/}release/bench}
-rows=35
+rows=36
 function=hm_step
 work=$(mktemp -d)
 trap 'rm -rf "$work"' EXIT
@@ -70,7 +70,7 @@ print_mean() {
 worst_of() { sort -n "$1" | tail -n 1; }
 
 # Rows 1 to 3, 11, 12, 18, 27 and 28 can't be accepted with 36 records, so fewer are tried as well; row 30 is never
-# refused. The row that takes the most is then searched further. Rows from 31 on are hm_time_step's and
+# refused. The row that takes the most is then searched further. Rows 31 to 35 are hm_time_step's and
 # hm_wafers_step's.
 print_worst() {
     local carriers row
@@ -86,7 +86,8 @@ print_worst() {
         $1 > top[$3, kind] { top[$3, kind] = $1 }
         END {
             printf "  %3s %9s %9s\n", "row", "accepted", "refused"
-            for (row = 1; row <= 30; row++) printf "  %3d %9s %9s\n", row, top[row, "accepted"], top[row, "refused"]
+            for (row = 1; row <= 36; row++)
+                if (row < 31 || row > 35) printf "  %3d %9s %9s\n", row, top[row, "accepted"], top[row, "refused"]
         }' "$work/search"
     echo
     worst_of "$work/search" | awk '{

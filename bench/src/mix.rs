@@ -31,15 +31,16 @@ pub struct Mix {
     live: u64,
     /// Slot maps that were the expected ones.
     pub at_once: u64,
-    /// Reports of model 8.
+    /// Reports of model 8, and of model 9.
     pub turns: u64,
+    pub alarms: u64,
 }
 
 impl Mix {
     fn begin(start: Tool, count: usize) -> Mix {
         let inputs = Vec::with_capacity(count);
         let (bytes, times) = (Vec::new(), Vec::new());
-        Mix { start, inputs, bytes, times, accepted: 0, live: 0, at_once: 0, turns: 0 }
+        Mix { start, inputs, bytes, times, accepted: 0, live: 0, at_once: 0, turns: 0, alarms: 0 }
     }
 
     pub fn inputs(&self) -> impl Iterator<Item = Given<'_>> {
@@ -73,7 +74,9 @@ impl Mix {
         self.live += after.base.count as u64;
         let judged = answer == 0 && i.number == SLOT_MAP && reports.items[0].new == status::OK;
         self.at_once += judged as u64;
-        self.turns += reports.as_slice().iter().filter(|r| r.model == 8).count() as u64;
+        let told = |model| reports.as_slice().iter().filter(|r| r.model == model).count() as u64;
+        self.turns += told(8);
+        self.alarms += told(9);
         let (name, codes) = (self.keep(&i.name), self.keep(&i.codes));
         let from = self.times.len();
         self.times.extend(i.times());
@@ -150,6 +153,38 @@ fn reach(carriers: u8, rng: &mut Rng) -> Tool {
 #[cfg(test)]
 mod tests {
     use super::*;
+
+    /// How many inputs of a mix are of a row with this value, and how many of these are accepted.
+    fn played(mix: &Mix, number: u32, value: Option<u32>) -> (u32, u32) {
+        let (mut tool, mut reports) = (mix.start, Reports::NONE);
+        let (mut all, mut accepted) = (0, 0);
+        for i in mix.inputs() {
+            let answer = crate::machine::independent(&mut tool, &i, &mut reports);
+            if i.number == number && value.is_none_or(|value| value == i.value) {
+                all += 1;
+                accepted += (answer == 0) as u32;
+            }
+        }
+        (all, accepted)
+    }
+
+    /// Hands and vehicles come to the ports of both mixes; most starts are as the port's mode has them, so that the
+    /// buffer fills and drains as before, and alarms and pods that are held are met all along.
+    #[test]
+    fn the_mixes_have_hands_on_auto_ports() {
+        for mix in [record(20_000, 27), record_foretelling(20_000)] {
+            for number in [13, 24] {
+                let [manual, automatic] = [0, 1].map(|value| played(&mix, number, Some(value)));
+                let (all, accepted) = played(&mix, number, None);
+                assert!(manual.1 > 100 && automatic.1 > 100, "row {number}: {manual:?} {automatic:?}");
+                assert!(2 * accepted > all, "row {number}: {accepted} of {all}");
+            }
+            let (continued, accepted) = played(&mix, 36, None);
+            assert!(3 * accepted > continued && accepted > 50, "{accepted} of {continued}");
+            assert!(mix.alarms > 200 && mix.alarms < 2_000, "{}", mix.alarms);
+            assert!(mix.percent_accepted() > 60.0, "{}", mix.percent_accepted());
+        }
+    }
 
     /// Predictions are made and judged all along the mix without a buffer, and its clock doesn't come to an end.
     #[test]

@@ -3,11 +3,11 @@
 //! where those are played, `CARRIERS NUMBER ANSWER REPORTS`; each of `hm_wafers_step` `CARRIERS NUMBER ANSWER WAFERS`;
 //! each of `hm_name` `BYTES NAME KIND`, where NAME is how many bytes the name has.
 
-use hawsermole::{Row, ROWS};
+use hawsermole::Row;
 use independent::gen::{Input, Rng};
 use independent::requests::predict::{brings_clock, is_timed, CLOCK};
 use independent::requests::wafers::WAFERS;
-use independent::requests::Tool;
+use independent::requests::{Tool, INPUTS};
 use independent::Reports;
 
 use crate::machine::proved;
@@ -69,7 +69,7 @@ pub fn one_row(row: u32, count: usize, carriers: usize) {
 pub fn search(count: usize, carriers: usize) {
     let mut rng = Rng::new(312);
     for k in 0..count {
-        let (row, turn) = (1 + (k % ROWS.len()) as u32, k / ROWS.len());
+        let (row, turn) = (1 + k as u32 % INPUTS, k / INPUTS as usize);
         let family = turn / 2 % FAMILIES.len();
         let (state, input) = prepared(carriers, family, row, turn % 2 == 0, &mut rng);
         call(&state, &input, FAMILIES[family]);
@@ -105,7 +105,7 @@ pub fn wafers(count: usize, carriers: usize) {
 pub fn unsound(count: usize, carriers: usize) {
     let mut rng = Rng::new(1);
     for k in 0..count {
-        let row = 1 + (k % ROWS.len()) as u32;
+        let row = 1 + k as u32 % INPUTS;
         let (state, input) = prepared(carriers, 0, row, true, &mut rng);
         call(&damaged(&state, &mut rng), &input, "damaged");
     }

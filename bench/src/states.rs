@@ -1,9 +1,9 @@
-//! Prepared states: sound tools of P = 4 and B = 16, or without a buffer for inputs that name a time, with a given number of records, with and without expected maps and
-//! requests to come out, and an input for each.
+//! Prepared states: sound tools of P = 4 and B = 16, or without a buffer for inputs that name a time, with a given number
+//! of records, with and without expected maps, requests to come out and alarms, and an input for each.
 
 use independent::gen::requests::{step, totalling};
 use independent::gen::{padded, pool_name, shuffle, Input, Rng, POOL};
-use independent::requests::predict::brings_clock;
+use independent::requests::predict::{brings_clock, CLOCK};
 use independent::requests::queue::Request;
 use independent::requests::wafers::WAFERS;
 use independent::requests::{setup, sound, Tool};
@@ -119,6 +119,7 @@ fn tool(carriers: usize, family: usize, rng: &mut Rng) -> Tool {
         }
     }
     ask(&mut tool, rng);
+    alarm(&mut tool, rng);
     tool.predictions.clock = [50, 0, 0, 0];
     assert!(sound(&tool), "a prepared state is sound");
     tool
@@ -180,10 +181,19 @@ fn ask(tool: &mut Tool, rng: &mut Rng) {
     }
 }
 
+/// Alarms at none, some or all ports that may have one, and pods held at some of those that are loading then.
+fn alarm(tool: &mut Tool, rng: &mut Rng) {
+    let (on, held) = (rng.pick(&[0, 50, 100]), rng.pick(&[0, 50, 100]));
+    for (alarm, port) in tool.alarms.iter_mut().zip(&tool.base.port) {
+        alarm.on = (port.transfer != transfer::READY_TO_LOAD && rng.chance(on)) as u8;
+        alarm.held = (alarm.on == 1 && port.movement == movement::LOADING && rng.chance(held)) as u8;
+    }
+}
+
 /// A state with so many records and an input of this row; accepted, or refused, if some draws can have it so.
 pub fn prepared(carriers: usize, family: usize, row: u32, accepted: bool, rng: &mut Rng) -> (Tool, Input) {
     // With a buffer an input that names a carrier and a time is always refused.
-    let draw = if row > 31 { foretelling } else { tool };
+    let draw = if brings_clock(row) && row != CLOCK { foretelling } else { tool };
     for _ in 0..40 {
         let tool = draw(carriers, family, rng);
         let input = input(&tool, row, family, accepted, rng);
@@ -299,6 +309,39 @@ mod tests {
             met.iter_mut().zip(seen).for_each(|(met, seen)| *met += seen as u32);
         }
         assert!(met.iter().all(|&met| met > 5), "{met:?}");
+    }
+
+    /// No alarms, some and four; pods held, and more than one of them.
+    #[test]
+    fn states_have_alarms() {
+        let mut rng = Rng::new(5);
+        let mut met = [0; 5];
+        for _ in 0..2000 {
+            let tool = tool(28, 0, &mut rng);
+            let on = tool.alarms.iter().filter(|alarm| alarm.on == 1).count();
+            let held = tool.alarms.iter().filter(|alarm| alarm.held == 1).count();
+            let seen = [on == 0, (1..4).contains(&on), on == 4, held == 1, held > 1];
+            met.iter_mut().zip(seen).for_each(|(met, seen)| *met += seen as u32);
+        }
+        assert!(met.iter().all(|&met| met > 5), "{met:?}");
+    }
+
+    /// Starts by hand and by vehicle, in both modes, with an alarm that they raise and without; LoadDone that holds.
+    #[test]
+    fn starts_are_of_every_kind() {
+        let mut rng = Rng::new(6);
+        let port = |i: &Input| i.port as usize - 1;
+        for row in [13, 24] {
+            let all: Vec<_> = (0..200).map(|_| prepared(30, 0, row, true, &mut rng)).collect();
+            for (value, access) in [(0, 0), (0, 1), (1, 1)] {
+                let is =
+                    |(tool, i): &(Tool, Input)| (i.value, tool.base.port[port(i)].access) == (value, access);
+                assert!(all.iter().any(is), "row {row}, {value} in {access}");
+            }
+        }
+        let done: Vec<_> = (0..200).map(|_| prepared(30, 0, 14, true, &mut rng)).collect();
+        let holds = |(tool, i): &&(Tool, Input)| tool.alarms[port(i)].on == 1;
+        assert!((1..200).contains(&done.iter().filter(holds).count()));
     }
 
     #[test]

@@ -28,14 +28,20 @@ pub fn time(count: usize, rounds: usize) -> Result<(), String> {
     frame::time(count, rounds)?;
     let foretelling = record_foretelling(count);
     println!(
-        "{count} inputs, P = 4, B = 0, {}; {} reports of model 8",
+        "{count} inputs, P = 4, B = 0, {}; {} reports of model 8, {} of model 9",
         words(&foretelling),
-        foretelling.turns
+        foretelling.turns,
+        foretelling.alarms
     );
     let ratio = time_mix(&foretelling, rounds)?;
     println!("ratio of the mix without a buffer: {ratio:.2}");
     let mix = record(count, CARRIERS);
-    println!("{count} inputs, P = 4, B = 16, {}; {} slot maps OK at once", words(&mix), mix.at_once);
+    println!(
+        "{count} inputs, P = 4, B = 16, {}; {} slot maps OK at once, {} reports of model 9",
+        words(&mix),
+        mix.at_once,
+        mix.alarms
+    );
     let ratio = time_mix(&mix, rounds)?;
     println!("ratio {ratio:.2}");
     Ok(())

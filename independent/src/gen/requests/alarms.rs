@@ -36,13 +36,13 @@ pub(super) fn draw_input(t: &Tool, rng: &mut Rng) -> Option<Input> {
     }
     let (p, port, alarm) = rng.pick(&alarmed);
     Some(match (port.transfer, port.movement) {
-        (_, movement::LOADING) if alarm.held != 0 => at(rng.pick(&[9, 14, 15, 36, 36]), p, rng.below(2)),
-        (_, movement::LOADING) => at(rng.pick(&[14, 14, 15, 36]), p, rng.below(2)),
-        (_, movement::UNLOADING) => at(rng.pick(&[25, 26, 26, 36]), p, rng.below(2)),
+        (_, movement::LOADING) if alarm.held != 0 => at(rng.pick(&[9, 14, 15, 36, 36, 36]), p, rng.below(2)),
+        (_, movement::LOADING) => at(rng.pick(&[14, 14, 14, 14, 15, 36]), p, rng.below(2)),
+        (_, movement::UNLOADING) => at(rng.pick(&[25, 25, 26, 26, 26, 26, 26, 36]), p, rng.below(2)),
         (transfer::READY_TO_UNLOAD, _) => at_ready_to_unload(t, p, rng),
         (transfer::OUT_OF_SERVICE, _) => at(10, p, 1),
         _ if rng.chance(40) => of_tied(t, 6, p),
-        _ => at(rng.pick(&[9, 18, 18, 36]), p, rng.below(t.base.places as u32 + 2)),
+        _ => at(rng.pick(&[9, 18, 18, 18]), p, rng.below(t.base.places as u32 + 2)),
     })
 }
 
@@ -59,8 +59,7 @@ fn at_ready_to_unload(t: &Tool, p: usize, rng: &mut Rng) -> Input {
         0 | 1 => at(24, p, MANUAL),
         2 => at(24, p, AUTOMATIC),
         3 | 4 => at(9, p, rng.below(2)),
-        5 => of_tied(t, 6, p),
-        6 => at(36, p, 0),
+        5 | 6 => of_tied(t, 6, p),
         _ => of_tied(t, 8, p),
     }
 }
