@@ -65,6 +65,19 @@ fn a_hold_by_the_mode_is_found() {
     assert!(told.contains(" held: proved 0, independent 1"), "{told}");
 }
 
+/// LoadDone that holds wherever the alarm is on, though nothing loads.
+#[test]
+fn a_hold_by_the_alarm_alone_is_found() {
+    let (run, row) = caught_small(|before, input, o| {
+        let Alarm { on, held } = alarm(before, input);
+        if is(input, o, 14, 5) && on == 1 && held == 0 {
+            o.answer = 0;
+            o.tool.alarms[input.port as usize - 1].held = 1;
+        }
+    });
+    assert_eq!((row, run.inputs.len() <= 11), (14, true), "{}", run.script());
+}
+
 /// LoadDone that is accepted twice: it does nothing, or what Continue does.
 #[test]
 fn a_load_done_accepted_twice_is_found() {

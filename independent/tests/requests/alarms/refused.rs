@@ -125,6 +125,22 @@ fn continue_with_nothing_held() {
     refused(&t);
 }
 
+/// The alarm alone holds nothing: LoadDone and LoadFail are 5 unless the port is loading.
+#[test]
+fn load_done_where_nothing_loads() {
+    let mut t = in_auto(1, 1);
+    let refused =
+        |t: &Tool| assert_eq!((alarms(t), refusal(t, 14, 1, 0), refusal(t, 15, 1, 0)), ("1 0".into(), 5, 5));
+    failed_unload(&mut t, 1, "A");
+    refused(&t);
+    accept(&mut t, 24, 1, MANUAL, "");
+    refused(&t);
+    accept(&mut t, 26, 1, 0, "");
+    t.base.carrier[0].came_out = 1;
+    accept(&mut t, 8, 0, 0, "A");
+    refused(&t);
+}
+
 /// LoadDone on a held pod is 5, however often.
 #[test]
 fn load_done_on_a_held_pod() {
