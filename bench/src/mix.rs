@@ -168,8 +168,8 @@ mod tests {
         (all, accepted)
     }
 
-    /// Hands and vehicles come to the ports of both mixes; most starts are as the port's mode has them, so that the
-    /// buffer fills and drains as before, and alarms and pods that are held are met all along.
+    /// Hands and vehicles come to the ports of both mixes; most starts are as the port's mode has them, so that carriers
+    /// come and go, and alarms and pods that are held are met all along.
     #[test]
     fn the_mixes_have_hands_on_auto_ports() {
         for mix in [record(20_000, 27), record_foretelling(20_000)] {

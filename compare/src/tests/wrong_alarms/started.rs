@@ -115,7 +115,7 @@ fn an_automatic_start_let_in_is_found() {
     }
 }
 
-/// A manual start that is refused in AUTO, as it were without P9's first words.
+/// A manual start that is refused in AUTO, as an automatic one is in MANUAL.
 #[test]
 fn a_manual_start_refused_is_found() {
     let (run, row) = caught_small(|before, input, o| {
