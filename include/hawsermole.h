@@ -9,8 +9,8 @@
  * S3F18, the answer to the host, is written into room that you lend. hm_secs_step is the same without the reply.
  * The rules are document 01's, with document 02's requests P1, expected maps, P3, SECS-II from the host bridge,
  * P4, names padded with blanks, P5, a queue for CarrierOut, P7, prediction of ready to unload, P8, where the predicted
- * time comes from, P2: hm_waiting, and P13, answers to the bridge. hm_judge, P14, judges a log by document 01 without
- * any request.
+ * time comes from, P9, hands on an AUTO port, P2: hm_waiting, and P13, answers to the bridge. hm_judge, P14, judges a
+ * log by document 01 without any request.
  * C99, C11 and C++17.
  * Link with libhawsermole.a; see examples/firmware.c and examples/host_bridge.c. hawsermole_words.h has words for the
  * numbers, and a carrier by its name; hawsermole_events.h SEMI E87's numbers of what a report tells.
@@ -55,8 +55,8 @@
 extern "C" {
 #endif
 
-/* The version of this header, 0x00MMmmpp: 0.11.0. hm_version is the archive's; compare the two once at start. */
-#define HM_VERSION 0x000B00
+/* The version of this header, 0x00MMmmpp: 0.12.0. hm_version is the archive's; compare the two once at start. */
+#define HM_VERSION 0x000C00
 
 /* Limits. */
 #define HM_PORTS 4                 /* a tool has 1 to 4 ports */
@@ -66,8 +66,8 @@ extern "C" {
 #define HM_REQUESTS 16             /* requests of CarrierOut that may be queued at once, for all ports together */
 #define HM_SLOTS 25                /* codes of a slot map */
 #define HM_CODE_GREATEST 5         /* each code is 0 to 5 */
-#define HM_REPORTS 10              /* reports of one input; no input gives more than nine */
-#define HM_INPUTS 35               /* inputs are numbered 1 to 35 */
+#define HM_REPORTS 10              /* reports of one input */
+#define HM_INPUTS 36               /* inputs are numbered 1 to 36 */
 #define HM_SECONDS_GREATEST 86400  /* setting time and timeout of predictions are 0 to 86,400 seconds each: a day */
 #define HM_WAFERS 25               /* wafers of one input, */
 #define HM_WAFER_PARTS 1024        /* each time of theirs a whole multiple of 1/1024 seconds */
@@ -80,7 +80,7 @@ extern "C" {
 #define HM_SECS_ITEMS 128          /* items of a message */
 #define HM_SECS_DEPTH 6            /* lists of a message, one in another, the outermost at one */
 #define HM_REPLY_ROOM 95           /* bytes of room that every reply fits into: 15 and a text of at most 80 */
-#define HM_SPARE_BYTES 294         /* bytes of a tool that hold nothing yet */
+#define HM_SPARE_BYTES 286         /* bytes of a tool that hold nothing yet */
 #define HM_TOOL_BYTES 3782
 #define HM_TOOL_01_BYTES 1891      /* the first of them: document 01's tool, without the requests */
 #define HM_REPORTS_BYTES 201
@@ -105,6 +105,11 @@ extern "C" {
  * the port; HM_INPUT_OUT_DONE puts the carrier on the port. From OUT_START to OUT_DONE the carrier keeps its buffer
  * place and isn't opened, and the port is kept for it: no other pod is loaded there. Nothing but OUT_DONE ends a
  * request that is started.
+ * A port in AUTO is for vehicles. HM_INPUT_LOAD_START and HM_INPUT_UNLOAD_START say who moves the pod: a hand in AUTO
+ * is accepted and raises the port's AccessModeViolation alarm, a vehicle in MANUAL is refused with 13.
+ * HM_INPUT_LOAD_DONE on a port whose alarm is on holds the pod: the port counts as still loading until
+ * HM_INPUT_CONTINUE, or HM_INPUT_LOAD_FAIL where the pod was taken off again. Both clear the alarm, and so does
+ * everything that makes the port READY TO LOAD; nothing else does.
  */
 enum hm_input {
     HM_INPUT_BIND = 1,                         /* port, name, codes: the expected map, or none */
@@ -120,9 +125,10 @@ enum hm_input {
     HM_INPUT_CHANGE_SERVICE_STATUS = 10,       /* port, value: HM_SERVICE_OUT or HM_SERVICE_IN */
     HM_INPUT_RESERVE_AT_PORT = 11,             /* port */
     HM_INPUT_CANCEL_RESERVATION_AT_PORT = 12,  /* port; 4 where a request is started to it */
-    HM_INPUT_LOAD_START = 13,                  /* port; 4 where a request is started to it */
-    HM_INPUT_LOAD_DONE = 14,                   /* port */
-    HM_INPUT_LOAD_FAIL = 15,                   /* port */
+    HM_INPUT_LOAD_START = 13,                  /* port, value: HM_START_MANUAL or HM_START_AUTOMATIC; 4 where a request
+                                                  is started to it */
+    HM_INPUT_LOAD_DONE = 14,                   /* port; with its alarm on the pod is held: see CONTINUE */
+    HM_INPUT_LOAD_FAIL = 15,                   /* port; a held pod is let go */
     HM_INPUT_ID_READ = 16,                     /* port, name */
     HM_INPUT_ID_READ_FAILED = 17,              /* port */
     HM_INPUT_MOVE_IN = 18,                     /* port, value: a buffer place from 1 */
@@ -131,7 +137,7 @@ enum hm_input {
     HM_INPUT_ACCESS_START = 21,                /* name */
     HM_INPUT_ACCESS_END = 22,                  /* name, value: HM_ACCESS_END_COMPLETE or _STOPPED */
     HM_INPUT_CLOSE = 23,                       /* name */
-    HM_INPUT_UNLOAD_START = 24,                /* port */
+    HM_INPUT_UNLOAD_START = 24,                /* port, value: HM_START_MANUAL or HM_START_AUTOMATIC */
     HM_INPUT_UNLOAD_DONE = 25,                 /* port */
     HM_INPUT_UNLOAD_FAIL = 26,                 /* port */
     HM_INPUT_OUT_START = 27,                   /* port: starts the oldest request that is ready for it */
@@ -142,17 +148,18 @@ enum hm_input {
     HM_INPUT_PREDICTED_TIME = 32,              /* clock, name, time: when the carrier will be ready to unload, Tp */
     HM_INPUT_ESTIMATE = 33,                    /* clock, name, time: when it is expected to be by now, Te */
     HM_INPUT_NO_PREDICTION = 34,               /* clock, name: no time can be predicted */
-    HM_INPUT_WAFERS = 35                       /* clock, name, wafers: Tp by their times; it goes to hm_wafers */
+    HM_INPUT_WAFERS = 35,                      /* clock, name, wafers: Tp by their times; it goes to hm_wafers */
+    HM_INPUT_CONTINUE = 36                     /* port: what LoadDone does, for the pod that is held there */
 };
 
 /*
- * The answers of hm_step, hm_time_step and hm_wafers: accepted, or the lowest refusal, 1 to 12, that applies. hm_setup
+ * The answers of hm_step, hm_time_step and hm_wafers: accepted, or the lowest refusal, 1 to 13, that applies. hm_setup
  * answers 0 or 1. The last one is of the functions that write a reply, hm_reply and hm_secs_exchange, alone.
  */
 enum hm_answer {
     HM_ACCEPTED = 0,
     HM_REFUSED_OUT_OF_RANGE = 1,          /* a port, place, value or name is outside its range, there are more than 25
-                                             wafers, the input number isn't 1 to 35, or the tool isn't sound: hm_sound
+                                             wafers, the input number isn't 1 to 36, or the tool isn't sound: hm_sound
                                              tells which */
     HM_REFUSED_NO_RECORD = 2,             /* the name has no record */
     HM_REFUSED_NAME_TAKEN = 3,            /* the name is taken */
@@ -165,6 +172,7 @@ enum hm_answer {
     HM_REFUSED_QUEUED_ALREADY = 10,       /* this carrier's CarrierOut is queued already, to whatever port */
     HM_REFUSED_CLOCK_EARLIER = 11,        /* the clock is earlier than the last that was accepted */
     HM_REFUSED_TIME_OUT_OF_RANGE = 12,    /* a wafer's time isn't one that hm_wafer may hold, or Tp is past 2^32 - 1 */
+    HM_REFUSED_AUTOMATIC_IN_MANUAL = 13,  /* HM_START_AUTOMATIC, and the port's access mode is MANUAL */
     HM_REFUSED_ROOM_TOO_SMALL = 14        /* the reply is longer than the room lent for it: nothing was written */
 };
 
@@ -192,7 +200,7 @@ enum hm_verdict {
     HM_REFUSED_LOG_CUT_SHORT = 29    /* the file ends inside its head, or inside an entry */
 };
 
-/* The models of reports. The subject is a port in 1 to 4 and a name in 5 to 8. */
+/* The models of reports. The subject is a port in 1 to 4 and in 9, and a name in 5 to 8. */
 enum hm_model {
     HM_MODEL_TRANSFER = 1,    /* states: enum hm_transfer */
     HM_MODEL_ACCESS = 2,      /* enum hm_access */
@@ -201,7 +209,8 @@ enum hm_model {
     HM_MODEL_ID = 5,          /* enum hm_status */
     HM_MODEL_SLOT = 6,        /* enum hm_status */
     HM_MODEL_ACCESSING = 7,   /* enum hm_accessing */
-    HM_MODEL_PREDICTION = 8   /* enum hm_prediction_state; of fixed buffer tools alone */
+    HM_MODEL_PREDICTION = 8,  /* enum hm_prediction_state; of fixed buffer tools alone */
+    HM_MODEL_ALARM = 9        /* enum hm_alarm: the AccessModeViolation alarm; the last report of an input */
 };
 
 /* In models 5 to 8: the carrier had no record before, or has none any more. */
@@ -221,6 +230,12 @@ enum hm_reservation { HM_NOT_RESERVED = 0, HM_RESERVED = 1 };
 enum hm_tie { HM_NOT_TIED = 0, HM_TIED = 1 };
 
 enum hm_movement { HM_MOVEMENT_NONE = 0, HM_MOVEMENT_LOADING = 1, HM_MOVEMENT_UNLOADING = 2 };
+
+/* The AccessModeViolation alarm of a port. */
+enum hm_alarm { HM_ALARM_OFF = 0, HM_ALARM_ON = 1 };
+
+/* Whether a pod that was put there by hand waits for HM_INPUT_CONTINUE or HM_INPUT_LOAD_FAIL. */
+enum hm_held { HM_NOT_HELD = 0, HM_HELD = 1 };
 
 /* Of a request of CarrierOut. */
 enum hm_started { HM_NOT_STARTED = 0, HM_STARTED = 1 };
@@ -268,6 +283,12 @@ enum hm_prediction_state {
 enum hm_service { HM_SERVICE_OUT = 0, HM_SERVICE_IN = 1 };
 
 enum hm_access_end { HM_ACCESS_END_COMPLETE = 0, HM_ACCESS_END_STOPPED = 1 };
+
+/*
+ * Values of LoadStart and UnloadStart: who moves the pod, a hand or a vehicle. Not to be taken for enum hm_access: that
+ * says for whom the port is.
+ */
+enum hm_start { HM_START_MANUAL = 0, HM_START_AUTOMATIC = 1 };
 
 /*
  * Codes of a slot map, in E87's words. Bind and CarrierNotification may carry the map that the host expects: 25
@@ -333,6 +354,12 @@ typedef struct hm_prediction {
     hm_time estimate;            /* Te, when has_estimate is 1; else 0 */
 } hm_prediction;
 
+/* What hands did at a port in AUTO. */
+typedef struct hm_hands {
+    uint8_t alarm;               /* enum hm_alarm; never on at READY TO LOAD */
+    uint8_t held;                /* enum hm_held; the port is loading then, without a pod, and its alarm is on */
+} hm_hands;
+
 /*
  * The times of a wafer, in seconds: each a whole multiple of 1/HM_WAFER_PARTS from 0 up to but not including
  * HM_WAFER_SECONDS. Such times are added without any rounding, and minus zero counts as zero.
@@ -356,6 +383,7 @@ typedef struct hm_tool {
     hm_time setting;                             /* a carrier is PREDICTED so long before Tp; 0: never */
     hm_time timeout;                             /* a prediction is ABORTED so long after Tp; 0: never */
     hm_prediction predictions[HM_RECORDS];       /* of the carrier with the same index */
+    hm_hands hands[HM_PORTS];                    /* of the port with the same index; all zero past used */
     uint8_t spare[HM_SPARE_BYTES];               /* all zero */
 } hm_tool;
 
@@ -370,7 +398,7 @@ typedef struct hm_tool_01 {
 
 typedef struct hm_report {
     uint8_t model;               /* enum hm_model */
-    uint8_t port;                /* models 1 to 4: the port; else 0 */
+    uint8_t port;                /* models 1 to 4 and 9: the port; else 0 */
     uint8_t name[HM_NAME_BYTES]; /* models 5 to 8: the carrier; else no name */
     uint8_t old_state;
     uint8_t new_state;
@@ -505,12 +533,13 @@ uint32_t hm_waiting(const hm_carrier *carriers, uint64_t count, hm_found *found)
 
 /*
  * Judges the log of another maker's tool by document 01, as it stands before any request: no expected map, no blank at
- * the end of a name, no prediction, and no queue: CarrierOut moves the carrier at once; inputs are 1 to 26, models 1 to
- * 7. The log: the mark CMT; a version of two bytes, the high one first: 1; P and B; then entries. Every other number is
- * one byte. An entry is input number, port, second number, name length, name, 25 codes for input 20 only, answer,
- * report count, reports; a report is model, subject (for models 5 to 7 name length and name, for every other number a
- * port), old, new. Answers by enum hm_verdict, the first that is met in the order of the file; an entry is read to its
- * end before it is judged, and nothing is read after one that disagrees.
+ * the end of a name, no prediction, no alarm, and no queue: CarrierOut moves the carrier at once; inputs are 1 to 26,
+ * models 1 to 7, and the second number of LoadStart and UnloadStart isn't looked at. The log: the mark CMT; a version
+ * of two bytes, the high one first: 1; P and B; then entries. Every other number is one byte. An entry is input number,
+ * port, second number, name length, name, 25 codes for input 20 only, answer, report count, reports; a report is model,
+ * subject (for models 5 to 7 name length and name, for every other number a port), old, new. Answers by enum
+ * hm_verdict, the first that is met in the order of the file; an entry is read to its end before it is judged, and
+ * nothing is read after one that disagrees.
  * What tool, reports and judged held before is gone. The tool is document 01's after the last input that it was given,
  * the reports are that input's, and judged->answer its answer: for HM_LOG_ENTRY_DISAGREES what the entry should show.
  * All zero where the head is refused. A log of any length is read once, where it stands, and no byte outside it.
@@ -605,6 +634,10 @@ HM_AT(hm_prediction, has_estimate, 2);
 HM_AT(hm_prediction, predicted, 3);
 HM_AT(hm_prediction, estimate, 7);
 
+HM_HOLDS(hm_hands_size, sizeof(hm_hands) == 2);
+HM_AT(hm_hands, alarm, 0);
+HM_AT(hm_hands, held, 1);
+
 HM_HOLDS(hm_wafer_size, sizeof(hm_wafer) == 16);
 HM_AT(hm_wafer, process, 0);
 HM_AT(hm_wafer, handling, 8);
@@ -626,7 +659,8 @@ HM_AT(hm_tool, clock, 3080);
 HM_AT(hm_tool, setting, 3084);
 HM_AT(hm_tool, timeout, 3088);
 HM_AT(hm_tool, predictions, 3092);
-HM_AT(hm_tool, spare, 3488);
+HM_AT(hm_tool, hands, 3488);
+HM_AT(hm_tool, spare, 3496);
 
 HM_HOLDS(hm_tool_01_size, sizeof(hm_tool_01) == HM_TOOL_01_BYTES);
 HM_AT(hm_tool_01, used, 0);

@@ -20,7 +20,7 @@ static inline const char *hm_answer_text(uint32_t answer)
 {
     static const char *const of_tool[] = {
         "accepted",
-        "a port, place, value or name is outside its range, the input number isn't 1 to 35, or the state isn't sound",
+        "a port, place, value or name is outside its range, the input number isn't 1 to 36, or the state isn't sound",
         "the name has no record",
         "the name is taken",
         "the port is reserved or tied",
@@ -32,6 +32,7 @@ static inline const char *hm_answer_text(uint32_t answer)
         "CarrierOut is queued already",
         "the clock is earlier than the last accepted",
         "a wafer's time or the predicted time is out of range",
+        "an automatic start in MANUAL",
     };
     static const char *const of_message[] = {
         "the message is cut short",
@@ -67,7 +68,7 @@ static inline const char *hm_input_text(uint32_t number)
         "CancelReservationAtPort", "LoadStart", "LoadDone", "LoadFail", "IdRead", "IdReadFailed", "MoveIn", "Open",
         "SlotMap", "AccessStart", "AccessEnd", "Close", "UnloadStart", "UnloadDone", "UnloadFail", "OutStart",
         "OutDone", "CancelCarrierOut", "CancelAllCarrierOut", "Clock", "PredictedTime", "Estimate", "NoPrediction",
-        "Wafers",
+        "Wafers", "Continue",
     };
     return HM_WORD(names, number - 1);
 }
@@ -78,11 +79,12 @@ static inline const char *hm_model_text(uint32_t model)
     static const char *const models[] = {
         "transfer state", "access mode", "reservation state", "association state",
         "ID status", "slot map status", "accessing status", "ready to unload prediction status",
+        "AccessModeViolation alarm",
     };
     return HM_WORD(models, model - 1);
 }
 
-/* A state of a model: old_state or new_state of a report, or a field of a port, carrier or prediction. */
+/* A state of a model: old_state or new_state of a report, or a field of a port, carrier, prediction or of hands. */
 static inline const char *hm_state_text(uint32_t model, uint32_t state)
 {
     static const char *const transfer[] = {"OUT OF SERVICE", "READY TO LOAD", "READY TO UNLOAD", "TRANSFER BLOCKED"};
@@ -103,6 +105,7 @@ static inline const char *hm_state_text(uint32_t model, uint32_t state)
         "no state", "PREDICTION DISABLED", "WAITING FOR CARRIER", "WAITING FOR PREDICTION", "PREDICTED",
         "PREDICTION ABORTED", "PREDICTION COMPLETED",
     };
+    static const char *const alarm[] = {"off", "on"};
     switch (model) {
     case HM_MODEL_TRANSFER: return HM_WORD(transfer, state);
     case HM_MODEL_ACCESS: return HM_WORD(access, state);
@@ -112,11 +115,15 @@ static inline const char *hm_state_text(uint32_t model, uint32_t state)
     case HM_MODEL_SLOT: return HM_WORD(slot, state);
     case HM_MODEL_ACCESSING: return HM_WORD(accessing, state);
     case HM_MODEL_PREDICTION: return HM_WORD(prediction, state);
+    case HM_MODEL_ALARM: return HM_WORD(alarm, state);
     default: return "out of range";
     }
 }
 
-/* What no report shows: enum hm_movement, hm_tag, hm_place, hm_started; and a code of a slot map, enum hm_code. */
+/*
+ * What no report shows: enum hm_movement, hm_tag, hm_place, hm_started, hm_start, hm_held; and a code of a slot map,
+ * enum hm_code.
+ */
 static inline const char *hm_movement_text(uint32_t movement)
 {
     static const char *const words[] = {"idle", "loading", "unloading"};
@@ -139,6 +146,18 @@ static inline const char *hm_started_text(uint32_t started)
 {
     static const char *const words[] = {"queued", "started"};
     return HM_WORD(words, started);
+}
+
+static inline const char *hm_start_text(uint32_t start)
+{
+    static const char *const words[] = {"manual", "automatic"};
+    return HM_WORD(words, start);
+}
+
+static inline const char *hm_held_text(uint32_t held)
+{
+    static const char *const words[] = {"not held", "held"};
+    return HM_WORD(words, held);
 }
 
 static inline const char *hm_code_text(uint32_t code)
