@@ -203,7 +203,7 @@ mod tests {
         let started = "  LoadStart(1): a pod starts to arrive\n  accepted\n\
                        \x20 port 1: READY TO LOAD to TRANSFER BLOCKED\n\
                        \x20 port 1: RESERVED to NOT RESERVED\n";
-        assert_eq!(explained(&mut tool, Input::LoadStart { port: 1 }), started);
+        assert_eq!(explained(&mut tool, Input::LoadStart { port: 1, start: 0 }), started);
         tool.step(&Input::LoadDone { port: 1 }).unwrap();
         let read = explained(&mut tool, Input::IdRead { port: 1, name: b"AC" });
         assert!(read.contains("  port 1: ASSOCIATED, now with another carrier\n"), "{read}");
@@ -220,7 +220,7 @@ mod tests {
         let told = |tool: &Tool| waiting(tool, tool.waiting());
         assert_eq!(told(&tool), "  no carrier waits for the host; 1 record read\n");
         assert_eq!(told(&Tool::none()), "  no carrier waits for the host; 0 records read\n");
-        let (start, done) = (Input::LoadStart { port: 1 }, Input::LoadDone { port: 1 });
+        let (start, done) = (Input::LoadStart { port: 1, start: 0 }, Input::LoadDone { port: 1 });
         for input in [start, done, Input::IdRead { port: 1, name: b"AC" }] {
             tool.step(&input).unwrap();
         }
@@ -239,7 +239,7 @@ mod tests {
     /// The last line for a slot map of a carrier that was announced so.
     fn judged(announced: Input, codes: &[u8]) -> String {
         let read = Input::IdRead { port: 1, name: NAME };
-        let (start, done) = (Input::LoadStart { port: 1 }, Input::LoadDone { port: 1 });
+        let (start, done) = (Input::LoadStart { port: 1, start: 0 }, Input::LoadDone { port: 1 });
         let mut tool = tool(1, 0, &[announced, start, done, read, Input::Open { name: NAME }]);
         let lines = explained(&mut tool, Input::SlotMap { name: NAME, codes });
         lines.lines().last().unwrap().into()
@@ -306,7 +306,7 @@ mod tests {
     fn padded_names_have_their_expected_map() {
         let map = ExpectedMap::new(&[3; SLOTS]).unwrap();
         let announced = Input::BindWithMap { port: 1, name: NAME, map };
-        let (start, done) = (Input::LoadStart { port: 1 }, Input::LoadDone { port: 1 });
+        let (start, done) = (Input::LoadStart { port: 1, start: 0 }, Input::LoadDone { port: 1 });
         let (read, open) = (Input::IdRead { port: 1, name: NAME }, Input::Open { name: NAME });
         let mut tool = tool(1, 0, &[announced, start, done, read, open]);
         let last = lines(&mut tool, 20, b"AB   ", &[3; SLOTS]).pop().unwrap();
@@ -365,7 +365,7 @@ mod tests {
         let expected = "  port 1: NOT RESERVED to RESERVED\n\
                         \x20 the CarrierOut of A is started: port 1 is kept for it until OutDone\n";
         assert!(started.ends_with(expected), "{started}");
-        let kept = explained(&mut tool, Input::LoadStart { port: 1 });
+        let kept = explained(&mut tool, Input::LoadStart { port: 1, start: 0 });
         let because = "\n  because a CarrierOut is started to the port: \
                        port 1 is kept for carrier A, whose CarrierOut was started\n  next: OutDone comes first";
         assert!(kept.contains(because), "{kept}");

@@ -146,7 +146,7 @@ mod tests {
     fn a_carrier_from_port_to_buffer_and_out() {
         let (name, codes) = (b"AB", [3; 25]);
         let mut inputs =
-            vec![Input::LoadStart { port: 1 }, Input::LoadDone { port: 1 }, Input::IdReadFailed { port: 1 }];
+            vec![Input::LoadStart { port: 1, start: 0 }, Input::LoadDone { port: 1 }, Input::IdReadFailed { port: 1 }];
         assert!(after(1, 2, &inputs).contains("idle, pod present, tag failed\n"));
         inputs.push(Input::ProceedWithCarrier { name, port: 1 });
         assert!(after(1, 2, &inputs).contains("carrier AB: at port 1, closed, ID VERIFICATION OK"));

@@ -131,7 +131,7 @@ pub mod tests {
         let mut tool = Tool::setup(ports, names.len() as u32).unwrap();
         for (place, name) in (1..).zip(names) {
             for input in [
-                Input::LoadStart { port: 1 },
+                Input::LoadStart { port: 1, start: 0 },
                 Input::LoadDone { port: 1 },
                 Input::IdRead { port: 1, name },
                 Input::ProceedWithCarrier { name, port: 1 },
@@ -148,7 +148,7 @@ pub mod tests {
         let mut tool = Tool::setup_with_times(2, 0, setting, timeout).unwrap();
         let (name, codes) = (b"A", &[3; 25]);
         for input in [
-            Input::LoadStart { port: 1 },
+            Input::LoadStart { port: 1, start: 0 },
             Input::LoadDone { port: 1 },
             Input::IdRead { port: 1, name },
             Input::ProceedWithCarrier { name, port: 1 },
@@ -176,7 +176,7 @@ pub mod tests {
     fn answers_without_reports_in_both_forms() {
         let refused = tool(1, 0, &[]).step(&Input::Open { name: b"AB" });
         assert_eq!((numbered(&refused), named(&refused)), ("2 0 []\n".into(), "2  none\n".into()));
-        let accepted = tool(1, 0, &[Input::LoadStart { port: 1 }]).step(&Input::LoadDone { port: 1 });
+        let accepted = tool(1, 0, &[Input::LoadStart { port: 1, start: 0 }]).step(&Input::LoadDone { port: 1 });
         assert_eq!((numbered(&accepted), named(&accepted)), ("0 0 []\n".into(), "0  none\n".into()));
     }
 
@@ -195,7 +195,7 @@ pub mod tests {
         assert_eq!(dump(&Tool::none()), "end\n");
         let empty = "port 1 1 0 0 - 0 0 0\nport 2 1 0 0 - 0 0 0\ntime 0 0 0\nend\n";
         assert_eq!(dump(&tool(2, 3, &[])), empty);
-        let bound = tool(1, 0, &[BIND, Input::LoadStart { port: 1 }]);
+        let bound = tool(1, 0, &[BIND, Input::LoadStart { port: 1, start: 0 }]);
         let expected = "port 1 3 0 0 4142 1 0 0\nrec 4142 0 0 1 0 0 0 - 1 1 1\n\
                         time 0 0 0\npredict 4142 2 - -\nend\n";
         assert_eq!(dump(&bound), expected);
@@ -207,7 +207,7 @@ pub mod tests {
         let (name, mut codes) = (b"AB", [3; 25]);
         codes[24] = 5;
         let read = Input::IdRead { port: 1, name };
-        let moved = [Input::LoadStart { port: 1 }, Input::LoadDone { port: 1 }, read];
+        let moved = [Input::LoadStart { port: 1, start: 0 }, Input::LoadDone { port: 1 }, read];
         let mut tool = tool(1, 9, &moved);
         for input in [
             Input::ProceedWithCarrier { name, port: 1 },

@@ -78,7 +78,7 @@ mod tests {
         assert_eq!(told(&mut tool, Input::OutStart { port: 1 }), started);
         let done = ["carrier A came out to port 1, its CarrierOut is done"];
         assert_eq!(told(&mut tool, Input::OutDone { port: 1 }), done);
-        assert!(told(&mut tool, Input::UnloadStart { port: 1 }).is_empty());
+        assert!(told(&mut tool, Input::UnloadStart { port: 1, start: 0 }).is_empty());
     }
 
     #[test]

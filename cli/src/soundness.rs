@@ -219,7 +219,7 @@ mod tests {
     }
 
     const A: &[u8] = b"A";
-    const START: Input = Input::LoadStart { port: 1 };
+    const START: Input = Input::LoadStart { port: 1, start: 0 };
     const DONE: Input = Input::LoadDone { port: 1 };
     const READ: Input = Input::IdRead { port: 1, name: A };
 

@@ -124,7 +124,7 @@ fn start(ports: u32, places: u32, times: &Times) -> Tool {
 /// A carrier comes to a port, and its wafers are accessed.
 fn visit(port: u32, name: &[u8]) -> [Input<'_>; 8] {
     [
-        Input::LoadStart { port },
+        Input::LoadStart { port, start: 0 },
         Input::LoadDone { port },
         Input::IdRead { port, name },
         Input::ProceedWithCarrier { name, port },

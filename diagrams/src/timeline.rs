@@ -76,7 +76,7 @@ fn in_access() -> Result<Tool, String> {
         Tool::setup_with_times(1, 0, SETTING, TIMEOUT).map_err(|refusal| format!("{FILE}: {refusal}"))?;
     let visit = [
         Input::Bind { port: 1, name: NAME },
-        Input::LoadStart { port: 1 },
+        Input::LoadStart { port: 1, start: 0 },
         Input::LoadDone { port: 1 },
         Input::IdRead { port: 1, name: NAME },
         Input::Open { name: NAME },

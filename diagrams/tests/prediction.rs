@@ -11,7 +11,7 @@ fn opened(places: u32) -> Tool {
     let mut tool = Tool::setup_with_times(1, places, 60, 120).unwrap();
     let visit = [
         Input::CarrierNotification { name: AB },
-        Input::LoadStart { port: 1 },
+        Input::LoadStart { port: 1, start: 0 },
         Input::LoadDone { port: 1 },
         Input::IdRead { port: 1, name: AB },
         Input::MoveIn { port: 1, place: 1 },

@@ -17,7 +17,7 @@ fn load(tool: &mut Tool, port: u32, name: &[u8]) {
         tool,
         &[
             Input::CarrierNotification { name },
-            Input::LoadStart { port },
+            Input::LoadStart { port, start: 0 },
             Input::LoadDone { port },
             Input::IdRead { port, name },
         ],
@@ -41,7 +41,7 @@ const AC: &[u8] = b"AC";
 /// What uses the carrier AB or port 1 for something else.
 const ELSEWHERE: [Input; 8] = [
     Input::Open { name: AB },
-    Input::LoadStart { port: 1 },
+    Input::LoadStart { port: 1, start: 0 },
     Input::CancelReservationAtPort { port: 1 },
     Input::Bind { port: 1, name: b"AX" },
     Input::ReserveAtPort { port: 1 },
@@ -80,7 +80,7 @@ fn the_oldest_that_is_ready_goes_first() {
     let queue = |tool: &Tool| tool.requests().map(|of| (of.name.to_string(), of.started)).collect::<Vec<_>>();
     assert_eq!(queue(&tool), [("AB".into(), 0), ("AC".into(), 1), ("AD".into(), 0)]);
     give(&mut tool, &[Input::OutDone { port: 1 }, Input::Close { name: AB }]);
-    give(&mut tool, &[Input::UnloadStart { port: 1 }, Input::UnloadDone { port: 1 }]);
+    give(&mut tool, &[Input::UnloadStart { port: 1, start: 0 }, Input::UnloadDone { port: 1 }]);
     give(&mut tool, &[Input::OutStart { port: 1 }]);
     assert_eq!(queue(&tool), [("AB".into(), 1), ("AD".into(), 0)]);
 }

@@ -14,7 +14,7 @@ const OF_MESSAGES: [u32; 4] = [1, 3, 5, 6];
 /// use hawsermole::{Event, Input, Tool};
 ///
 /// let mut tool = Tool::setup(1, 0).unwrap();
-/// let input = Input::LoadStart { port: 1 };
+/// let input = Input::LoadStart { port: 1, start: 0 };
 /// for report in tool.step(&input).unwrap() {
 ///     let event = Event::of(input.parts().number, &report).unwrap();
 ///     assert_eq!((event.table(), event.events), (5, &[6][..]));
@@ -22,7 +22,7 @@ const OF_MESSAGES: [u32; 4] = [1, 3, 5, 6];
 /// ```
 #[derive(Clone, Copy, Debug, PartialEq, Eq)]
 pub struct Event {
-    /// The input's number, 1 to 35.
+    /// The input's number, 1 to 36.
     pub input: u32,
     /// The report's model.
     pub model: Model,
@@ -69,7 +69,7 @@ impl Event {
         OF_MESSAGES.iter().find_map(|&input| Event::of(input, report))
     }
 
-    /// The standard's table of the model's transitions: 5, 7, 9, 10 or 11.
+    /// The standard's table of the model's transitions: 5, 7, 9, 10 or 11; 38, which lists alarms, for model 9.
     pub const fn table(&self) -> u8 {
         self.model.table()
     }

@@ -2,11 +2,12 @@
 use crate::map::ExpectedMap;
 use crate::name::write_text;
 use crate::row::{Argument, Row, ROWS};
+use crate::states::Start;
 use crate::wafer::Wafer;
 use core::fmt;
 
-/// One input: document 01's 26 rows, four each of the requests P5 and P7 and one of P8, with their arguments in the
-/// documents' order. Rows 1 and 3 have two cases each, without an expected map and with one.
+/// One input: document 01's 26 rows, four each of the requests P5 and P7 and one each of P8 and P9, with their arguments
+/// in the documents' order. Rows 1 and 3 have two cases each, without an expected map and with one.
 ///
 /// A port, place or value is any 32-bit number, a name and codes are any bytes of any length:
 /// what is outside its range is answered with [`Refusal::OutOfRange`](crate::Refusal::OutOfRange), not cut.
@@ -48,11 +49,13 @@ pub enum Input<'a> {
     ReserveAtPort { port: u32 },
     /// 12: ends a port's reservation, but not where a CarrierOut is started to it.
     CancelReservationAtPort { port: u32 },
-    /// 13: a pod starts to arrive at a port, to which no CarrierOut is started.
-    LoadStart { port: u32 },
-    /// 14: the pod has arrived.
+    /// 13: a pod starts to arrive at a port, to which no CarrierOut is started: 0 by hand, 1 by an automatic vehicle
+    /// ([`Start`](crate::states::Start)). A hand at a port in AUTO raises its AccessModeViolation alarm.
+    LoadStart { port: u32, start: u32 },
+    /// 14: the pod has arrived. Where the port's alarm is on the pod is [held](crate::Tool::held): nothing else follows
+    /// before [`Continue`](Input::Continue) or [`LoadFail`](Input::LoadFail).
     LoadDone { port: u32 },
-    /// 15: the pod didn't arrive.
+    /// 15: the pod didn't arrive, or one that was held is taken off again.
     LoadFail { port: u32 },
     /// 16: the name on the pod's tag was read.
     IdRead { port: u32, name: &'a [u8] },
@@ -71,8 +74,8 @@ pub enum Input<'a> {
     AccessEnd { name: &'a [u8], end: u32 },
     /// 23: closes a carrier.
     Close { name: &'a [u8] },
-    /// 24: a pod starts to leave a port.
-    UnloadStart { port: u32 },
+    /// 24: a pod starts to leave a port, 0 by hand, 1 by an automatic vehicle, as row 13.
+    UnloadStart { port: u32, start: u32 },
     /// 25: the pod has left.
     UnloadDone { port: u32 },
     /// 26: the pod didn't leave.
@@ -98,16 +101,19 @@ pub enum Input<'a> {
     /// 35: the same as [`PredictedTime`](Input::PredictedTime) from the times of up to 25 wafers: the predicted time is
     /// the clock plus the total of both times of all, rounded up once to a second; with no wafers it is the clock.
     Wafers { clock: u32, name: &'a [u8], wafers: &'a [Wafer] },
+    /// 36: the pod that is held at a port stays: what [`LoadDone`](Input::LoadDone) does without an alarm, which is
+    /// cleared.
+    Continue { port: u32 },
 }
 
 /// An input as the machine takes it. A row looks only at the parts that it names.
 #[derive(Clone, Copy, Debug, Default, PartialEq, Eq, Hash)]
 pub struct Parts<'a> {
-    /// The row: 1 to 35.
+    /// The row: 1 to 36.
     pub number: u32,
     /// The port.
     pub port: u32,
-    /// The access mode, service status, buffer place or end of access.
+    /// The access mode, service status, buffer place or end of access, or who starts to load or unload.
     pub value: u32,
     /// The carrier's name; it may have blanks at its end.
     pub name: &'a [u8],
@@ -182,7 +188,7 @@ impl<'a> Input<'a> {
             Input::ChangeServiceStatus { port, service } => row(10).port(port).value(service),
             Input::ReserveAtPort { port } => row(11).port(port),
             Input::CancelReservationAtPort { port } => row(12).port(port),
-            Input::LoadStart { port } => row(13).port(port),
+            Input::LoadStart { port, start } => row(13).port(port).value(start),
             Input::LoadDone { port } => row(14).port(port),
             Input::LoadFail { port } => row(15).port(port),
             Input::IdRead { port, name } => row(16).port(port).name(name),
@@ -193,7 +199,7 @@ impl<'a> Input<'a> {
             Input::AccessStart { name } => row(21).name(name),
             Input::AccessEnd { name, end } => row(22).name(name).value(end),
             Input::Close { name } => row(23).name(name),
-            Input::UnloadStart { port } => row(24).port(port),
+            Input::UnloadStart { port, start } => row(24).port(port).value(start),
             Input::UnloadDone { port } => row(25).port(port),
             Input::UnloadFail { port } => row(26).port(port),
             Input::OutStart { port } => row(27).port(port),
@@ -205,18 +211,19 @@ impl<'a> Input<'a> {
             Input::Estimate { clock, name, te } => row(33).clock(clock).name(name).time(te),
             Input::NoPrediction { clock, name } => row(34).clock(clock).name(name),
             Input::Wafers { clock, name, wafers } => row(35).clock(clock).name(name).wafers(wafers),
+            Input::Continue { port } => row(36).port(port),
         }
     }
 
-    /// The input of its parts; none if the number isn't 1 to 35, or if rows 1 and 3 carry codes that are no expected
+    /// The input of its parts; none if the number isn't 1 to 36, or if rows 1 and 3 carry codes that are no expected
     /// map. Parts that the row doesn't name are left out.
     ///
     /// ```
     /// use hawsermole::{Input, Parts};
     ///
-    /// let parts = Parts { number: 13, port: 1, ..Parts::default() };
-    /// assert_eq!(Input::from_parts(&parts), Some(Input::LoadStart { port: 1 }));
-    /// assert_eq!(Input::from_parts(&Parts { number: 36, ..parts }), None);
+    /// let parts = Parts { number: 13, port: 1, value: 1, ..Parts::default() };
+    /// assert_eq!(Input::from_parts(&parts), Some(Input::LoadStart { port: 1, start: 1 }));
+    /// assert_eq!(Input::from_parts(&Parts { number: 37, ..parts }), None);
     /// assert_eq!(Input::from_parts(&Parts { number: 1, codes: &[5; 25], ..parts }), None);
     /// ```
     pub fn from_parts(parts: &Parts<'a>) -> Option<Input<'a>> {
@@ -236,7 +243,7 @@ impl<'a> Input<'a> {
             10 => Input::ChangeServiceStatus { port, service: value },
             11 => Input::ReserveAtPort { port },
             12 => Input::CancelReservationAtPort { port },
-            13 => Input::LoadStart { port },
+            13 => Input::LoadStart { port, start: value },
             14 => Input::LoadDone { port },
             15 => Input::LoadFail { port },
             16 => Input::IdRead { port, name },
@@ -247,13 +254,14 @@ impl<'a> Input<'a> {
             21 => Input::AccessStart { name },
             22 => Input::AccessEnd { name, end: value },
             23 => Input::Close { name },
-            24 => Input::UnloadStart { port },
+            24 => Input::UnloadStart { port, start: value },
             25 => Input::UnloadDone { port },
             26 => Input::UnloadFail { port },
             27 => Input::OutStart { port },
             28 => Input::OutDone { port },
             29 => Input::CancelCarrierOut { name },
             30 => Input::CancelAllCarrierOut,
+            36 => Input::Continue { port },
             _ => return Input::with_clock(parts),
         })
     }
@@ -271,7 +279,7 @@ impl<'a> Input<'a> {
         }
     }
 
-    /// The documents' number, 1 to 35.
+    /// The documents' number, 1 to 36.
     pub fn number(&self) -> u32 {
         self.parts().number
     }
@@ -300,6 +308,7 @@ impl<'a> Input<'a> {
 /// let map = ExpectedMap::new(&[3; 25]).unwrap();
 /// assert_eq!(Input::BindWithMap { port: 1, name: b"AB", map }.to_string(), "Bind(1, AB, 25 codes)");
 /// assert_eq!(Input::CancelAllCarrierOut.to_string(), "CancelAllCarrierOut");
+/// assert_eq!(Input::LoadStart { port: 1, start: 1 }.to_string(), "LoadStart(1, automatic)");
 /// ```
 impl fmt::Display for Input<'_> {
     fn fmt(&self, f: &mut fmt::Formatter<'_>) -> fmt::Result {
@@ -314,7 +323,7 @@ impl fmt::Display for Input<'_> {
 ///
 /// let parts = Parts { number: 1, port: 1, name: b"AB", codes: &[5, 5], ..Parts::default() };
 /// assert_eq!(parts.to_string(), "Bind(1, AB, 2 codes)");
-/// assert_eq!(Parts { number: 36, ..parts }.to_string(), "36");
+/// assert_eq!(Parts { number: 37, ..parts }.to_string(), "37");
 /// ```
 impl fmt::Display for Parts<'_> {
     fn fmt(&self, f: &mut fmt::Formatter<'_>) -> fmt::Result {
@@ -334,12 +343,21 @@ impl fmt::Display for Parts<'_> {
                 Argument::Access | Argument::Service | Argument::Place | Argument::End => {
                     write!(f, "{}", self.value)?
                 }
+                Argument::Start => write_start(self.value, f)?,
                 Argument::Clock => write!(f, "{}", self.clock)?,
                 Argument::Tp | Argument::Te => write!(f, "{}", self.time)?,
                 Argument::Wafers => write_wafers(self.wafers.len(), f)?,
             }
         }
         f.write_str(")")
+    }
+}
+
+/// By its word, where the number has one.
+fn write_start(value: u32, f: &mut fmt::Formatter<'_>) -> fmt::Result {
+    match u8::try_from(value).ok().and_then(Start::from_number) {
+        Some(start) => f.write_str(start.word()),
+        None => write!(f, "{value}"),
     }
 }
 
@@ -366,7 +384,7 @@ mod tests {
     type Case = (Input<'static>, u32, u32, u32, &'static [u8], &'static [u8]);
 
     #[rustfmt::skip]
-    fn every_input() -> [Case; 37] {
+    fn every_input() -> [Case; 38] {
         let (name, codes): (_, &[u8]) = (NAME, &[3; 25]);
         let map = ExpectedMap::new(codes).unwrap();
         [
@@ -384,7 +402,7 @@ mod tests {
             (Input::ChangeServiceStatus { port: 7, service: 70 }, 10, 7, 70, &[], &[]),
             (Input::ReserveAtPort { port: 8 }, 11, 8, 0, &[], &[]),
             (Input::CancelReservationAtPort { port: 9 }, 12, 9, 0, &[], &[]),
-            (Input::LoadStart { port: 10 }, 13, 10, 0, &[], &[]),
+            (Input::LoadStart { port: 10, start: 100 }, 13, 10, 100, &[], &[]),
             (Input::LoadDone { port: 11 }, 14, 11, 0, &[], &[]),
             (Input::LoadFail { port: 12 }, 15, 12, 0, &[], &[]),
             (Input::IdRead { port: 13, name }, 16, 13, 0, NAME, &[]),
@@ -395,7 +413,7 @@ mod tests {
             (Input::AccessStart { name }, 21, 0, 0, NAME, &[]),
             (Input::AccessEnd { name, end: 160 }, 22, 0, 160, NAME, &[]),
             (Input::Close { name }, 23, 0, 0, NAME, &[]),
-            (Input::UnloadStart { port: u32::MAX }, 24, u32::MAX, 0, &[], &[]),
+            (Input::UnloadStart { port: u32::MAX, start: u32::MAX }, 24, u32::MAX, u32::MAX, &[], &[]),
             (Input::UnloadDone { port: 257 }, 25, 257, 0, &[], &[]),
             (Input::UnloadFail { port: 0 }, 26, 0, 0, &[], &[]),
             (Input::OutStart { port: 16 }, 27, 16, 0, &[], &[]),
@@ -407,13 +425,14 @@ mod tests {
             (Input::Estimate { clock: CLOCK, name, te: TIME }, 33, 0, 0, NAME, &[]),
             (Input::NoPrediction { clock: CLOCK, name }, 34, 0, 0, NAME, &[]),
             (Input::Wafers { clock: CLOCK, name, wafers: WAFERS }, 35, 0, 0, NAME, &[]),
+            (Input::Continue { port: 18 }, 36, 18, 0, &[], &[]),
         ]
     }
 
     #[test]
     fn every_input_has_its_number_and_arguments() {
         for (input, number, port, value, name, codes) in every_input() {
-            let clock = if number > 30 { CLOCK } else { 0 };
+            let clock = if (31..=35).contains(&number) { CLOCK } else { 0 };
             let time = if [32, 33].contains(&number) { TIME } else { 0 };
             let wafers = if number == 35 { WAFERS } else { &[] };
             assert_eq!(input.parts(), Parts { number, port, value, name, codes, clock, time, wafers });
@@ -439,7 +458,7 @@ mod tests {
 
     #[test]
     fn odd_numbers_are_no_input() {
-        for number in [0, 36, 255, 256, 257, 286, u32::MAX] {
+        for number in [0, 37, 255, 256, 257, 256 + 36, u32::MAX] {
             assert_eq!(Input::from_parts(&Parts { number, ..Parts::default() }), None);
         }
     }
@@ -448,7 +467,7 @@ mod tests {
     #[test]
     fn codes_that_are_no_map_are_no_input() {
         for codes in [&[3; 24][..], &[0; 25], &[4; 25], &[3; 26]] {
-            for number in 1..=35 {
+            for number in 1..=36 {
                 let input = Input::from_parts(&Parts { number, codes, ..Parts::default() });
                 assert_eq!(input.is_none(), matches!(number, 1 | 3), "{number}");
             }
@@ -471,6 +490,11 @@ mod tests {
             (format!("{predicted}"), format!("{}", Input::Clock { clock: 9 })),
             ("PredictedTime(9, AB, 69)".into(), "Clock(9)".into())
         );
+        for (start, text) in [(0, "manual"), (1, "automatic"), (2, "2"), (256, "256")] {
+            let inputs = [Input::LoadStart { port: 1, start }, Input::UnloadStart { port: 1, start }];
+            let texts = [format!("LoadStart(1, {text})"), format!("UnloadStart(1, {text})")];
+            assert_eq!(inputs.map(|input| format!("{input}")), texts);
+        }
         for (count, text) in [(0, "no wafers"), (1, "1 wafer"), (2, "2 wafers")] {
             let input = Input::Wafers { clock: 9, name: NAME, wafers: &WAFERS[..count] };
             assert_eq!(format!("{input}"), format!("Wafers(9, AB, {text})"));

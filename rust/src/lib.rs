@@ -2,12 +2,12 @@
 //! load ports, pods and the buffer, one input at a time, no heap.
 //!
 //! The machine itself is an archive, `libhawsermole.a`, proved to give exactly the answer, the state and the
-//! reports that document 01 lays down, with document 02's requests P1, P3 to P8 and P13. This crate wraps it: an
+//! reports that document 01 lays down, with document 02's requests P1, P3 to P9 and P13. This crate wraps it: an
 //! [`Input`] has the documents' name and arguments, a [`Refusal`] is one of their reasons, [`Reports`] gives what
 //! changed and [`Event`] which transitions of E87 that is, an [`ExpectedMap`] lets the tool judge a slot map that the
 //! host knows beforehand, [`Name::in_text`] tells which name a tag reader's text has without the blanks at its end,
 //! [`Tool::requests`] are the requests of CarrierOut that wait for their port, [`Tool::predictions`] tell when carriers
-//! are ready to unload, [`Tool::secs_step`] takes a host's S3F17 as it came, and [`Tool::secs_exchange`] writes the
+//! are ready to unload, [`Tool::hands`] where somebody put a hand on a port in AUTO, [`Tool::secs_step`] takes a host's S3F17 as it came, and [`Tool::secs_exchange`] writes the
 //! S3F18 that answers it, too. [`states`] has every state by E87's word.
 //!
 //! ```
@@ -17,7 +17,7 @@
 //! tool.step(&Input::Bind { port: 1, name: b"AB" })?;
 //!
 //! // The port is no longer READY TO LOAD once the pod starts to arrive, and its reservation ends.
-//! let reports = tool.step(&Input::LoadStart { port: 1 })?;
+//! let reports = tool.step(&Input::LoadStart { port: 1, start: 0 })?;
 //! let models: Vec<Model> = reports.map(|report| report.model).collect();
 //! assert_eq!(models, [Model::Transfer, Model::Reservation]);
 //!
@@ -53,6 +53,7 @@
 extern crate std;
 
 mod event;
+mod hands;
 mod input;
 mod judge;
 mod machine;
@@ -72,6 +73,7 @@ mod waiting;
 pub mod words;
 
 pub use event::{Event, EVENTS};
+pub use hands::Hands;
 pub use input::{Input, Parts};
 pub use judge::{judge, LogRefusal, Verdict};
 pub use map::{ExpectedMap, MapError};

@@ -19,7 +19,7 @@ const CORRECTLY_OCCUPIED: u8 = 3;
 /// let mut tool = Tool::setup(1, 0)?;
 /// for input in [
 ///     Input::BindWithMap { port: 1, name: b"AB", map },
-///     Input::LoadStart { port: 1 },
+///     Input::LoadStart { port: 1, start: 0 },
 ///     Input::LoadDone { port: 1 },
 ///     Input::IdRead { port: 1, name: b"AB" },
 ///     Input::Open { name: b"AB" },

@@ -1,7 +1,7 @@
 //! The prediction of ready to unload (request P7), as a fixed buffer tool holds it.
+use crate::hands::HANDS_START;
 use crate::name::Name;
-use crate::raw::TOOL_BYTES;
-use crate::tool::{Tool, RECORDS, SPARE_BYTES};
+use crate::tool::{Tool, RECORDS};
 
 /// The most seconds that a set-up takes as setting time and as timeout.
 pub const SECONDS_MOST: u32 = 86_400;
@@ -11,7 +11,7 @@ const TIME_BYTES: usize = 4;
 /// Clock, setting time and timeout.
 const TIMES_BYTES: usize = 3 * TIME_BYTES;
 pub(crate) const PREDICTIONS_BYTES: usize = TIMES_BYTES + RECORDS * PREDICTION_BYTES;
-pub(crate) const TIMES_START: usize = TOOL_BYTES - SPARE_BYTES - PREDICTIONS_BYTES;
+pub(crate) const TIMES_START: usize = HANDS_START - PREDICTIONS_BYTES;
 pub(crate) const PREDICTIONS_START: usize = TIMES_START + TIMES_BYTES;
 
 /// When a carrier is ready to unload: model 8. Times are seconds of the clock that the inputs bring.
@@ -51,7 +51,7 @@ impl Tool {
     /// let mut tool = Tool::setup_with_times(1, 0, 60, 120)?;
     /// let (name, codes) = (b"AB", &[3; 25]);
     /// for input in [
-    ///     Input::LoadStart { port: 1 },
+    ///     Input::LoadStart { port: 1, start: 0 },
     ///     Input::LoadDone { port: 1 },
     ///     Input::IdRead { port: 1, name },
     ///     Input::ProceedWithCarrier { name, port: 1 },
@@ -114,6 +114,7 @@ impl Tool {
 #[cfg(test)]
 mod tests {
     use super::*;
+    use crate::raw::TOOL_BYTES;
     use std::vec::Vec;
 
     /// Each byte is its own place, as far as a byte reaches, so that a field read from a wrong place shows.

@@ -15,7 +15,7 @@
 //! ```
 
 /// The version of this crate as a number, 0x00MMmmpp; `HM_VERSION` of the header.
-pub const VERSION: u32 = 0x000B00;
+pub const VERSION: u32 = 0x000C00;
 /// How many bytes a tool has.
 pub const TOOL_BYTES: usize = 3782;
 /// How many bytes document 01's tool has, with which a tool begins.
@@ -297,12 +297,13 @@ mod tests {
 
     #[test]
     fn sizes_are_the_sum_of_their_parts() {
+        use crate::hands::HANDS_BYTES;
         use crate::prediction::PREDICTIONS_BYTES;
         use crate::request::QUEUE_BYTES;
         use crate::tool::{HEAD_BYTES, PORT_BYTES, SPARE_BYTES};
         use crate::{PORTS, RECORDS, SLOTS};
         assert_eq!(TOOL_01_BYTES, HEAD_BYTES + PORTS * PORT_BYTES + RECORDS * CARRIER_BYTES);
-        let requests = RECORDS * SLOTS + QUEUE_BYTES + PREDICTIONS_BYTES;
+        let requests = RECORDS * SLOTS + QUEUE_BYTES + PREDICTIONS_BYTES + HANDS_BYTES;
         assert_eq!(TOOL_BYTES, TOOL_01_BYTES + requests + SPARE_BYTES);
         assert_eq!(REPORTS_BYTES, 1 + crate::REPORTS * crate::report::REPORT_BYTES);
     }

@@ -1,9 +1,9 @@
 //! Why an input is refused.
 use core::fmt;
 
-/// Why an input was refused: document 01's eight reasons, the two of request P5 and one each of requests P7 and P8, of
-/// which the lowest that applies is given; or why a message was, by request P3: the first that its reading meets, and the lowest
-/// at one item; or that a reply had no room, by request P13.
+/// Why an input was refused: document 01's eight reasons, the two of request P5 and one each of requests P7, P8 and P9,
+/// of which the lowest that applies is given; or why a message was, by request P3: the first that its reading meets, and
+/// the lowest at one item; or that a reply had no room, by request P13.
 ///
 /// ```
 /// use hawsermole::{Input, Refusal, Tool};
@@ -17,7 +17,7 @@ use core::fmt;
 #[derive(Clone, Copy, Debug, PartialEq, Eq, PartialOrd, Ord, Hash)]
 #[repr(u8)]
 pub enum Refusal {
-    /// 1: a port, place, value or name is outside its range, the input number isn't 1 to 35, or the state isn't sound;
+    /// 1: a port, place, value or name is outside its range, the input number isn't 1 to 36, or the state isn't sound;
     /// also codes that are no slot map, or no [`ExpectedMap`](crate::ExpectedMap) in rows 1 and 3, a text in which
     /// there is no [`Name`](crate::Name::in_text), and more than [`WAFERS`](crate::WAFERS).
     OutOfRange = 1,
@@ -45,6 +45,8 @@ pub enum Refusal {
     /// 12: a time of a [`Wafer`](crate::Wafer) isn't one that it may be, or the predicted time is past the last second
     /// that a clock has, 4,294,967,295.
     TimeOutOfRange = 12,
+    /// 13: an automatic [`Start`](crate::states::Start) at a port whose access mode is MANUAL.
+    AutomaticInManual = 13,
     /// 14: the reply is longer than the room lent for it. Nothing was written, and the tool got no input.
     RoomTooSmall = 14,
     /// 20: the message ends inside an item, or before one that a list counts.
@@ -64,8 +66,8 @@ pub enum Refusal {
 }
 
 impl Refusal {
-    /// All twenty, by number.
-    pub const ALL: [Refusal; 20] = [
+    /// All twenty-one, by number.
+    pub const ALL: [Refusal; 21] = [
         Refusal::OutOfRange,
         Refusal::NoRecord,
         Refusal::NameTaken,
@@ -78,6 +80,7 @@ impl Refusal {
         Refusal::QueuedAlready,
         Refusal::ClockEarlier,
         Refusal::TimeOutOfRange,
+        Refusal::AutomaticInManual,
         Refusal::RoomTooSmall,
         Refusal::CutShort,
         Refusal::UnknownCode,
@@ -88,7 +91,7 @@ impl Refusal {
         Refusal::ShapeOrAction,
     ];
 
-    /// The documents' number: 1 to 12, 14 for a reply, and 20 to 26 for a message.
+    /// The documents' number: 1 to 13, 14 for a reply, and 20 to 26 for a message.
     pub const fn number(self) -> u8 {
         self as u8
     }
@@ -111,7 +114,7 @@ impl Refusal {
     ///
     /// assert_eq!(Refusal::from_number(7), Some(Refusal::NotVerified));
     /// assert_eq!(Refusal::from_number(0), None);
-    /// assert_eq!(Refusal::from_number(13), None);
+    /// assert_eq!(Refusal::from_number(15), None);
     /// assert_eq!(Refusal::from_number(26), Some(Refusal::ShapeOrAction));
     /// ```
     pub fn from_number(number: u32) -> Option<Refusal> {
@@ -122,7 +125,7 @@ impl Refusal {
     pub const fn text(self) -> &'static str {
         match self {
             Refusal::OutOfRange => {
-                "a port, place, value or name is outside its range, the input number isn't 1 to 35, \
+                "a port, place, value or name is outside its range, the input number isn't 1 to 36, \
                  or the state isn't sound"
             }
             Refusal::NoRecord => "the name has no record",
@@ -136,6 +139,7 @@ impl Refusal {
             Refusal::QueuedAlready => "CarrierOut is queued already",
             Refusal::ClockEarlier => "the clock is earlier than the last accepted",
             Refusal::TimeOutOfRange => "a wafer's time or the predicted time is out of range",
+            Refusal::AutomaticInManual => "an automatic start in MANUAL",
             Refusal::RoomTooSmall => "the room lent is too small",
             Refusal::CutShort => "the message is cut short",
             Refusal::UnknownCode => "unknown format code",
@@ -171,12 +175,12 @@ mod tests {
 
     #[test]
     fn numbers_go_both_ways() {
-        for (number, refusal) in (1..=12).chain([14]).chain(20..=26).zip(Refusal::ALL) {
+        for (number, refusal) in (1..=14).chain(20..=26).zip(Refusal::ALL) {
             assert_eq!(refusal.number(), number);
             assert_eq!(refusal.is_of_message(), number > 14);
             assert_eq!(Refusal::from_number(u32::from(refusal.number())), Some(refusal));
         }
-        for odd in [0, 13, 15, 19, 27, 255, 256, 257, 276, u32::MAX] {
+        for odd in [0, 15, 19, 27, 255, 256, 257, 276, u32::MAX] {
             assert_eq!(Refusal::from_number(odd), None);
         }
     }
@@ -188,6 +192,7 @@ mod tests {
         assert_eq!(Refusal::QueueFull.to_string(), "the queue for CarrierOut is full");
         assert_eq!(Refusal::ClockEarlier.to_string(), "the clock is earlier than the last accepted");
         assert!(Refusal::TimeOutOfRange.to_string().ends_with("or the predicted time is out of range"));
+        assert_eq!(Refusal::AutomaticInManual.to_string(), "an automatic start in MANUAL");
         assert_eq!(Refusal::BytesLeftOver.to_string(), "bytes left over");
         assert_eq!(Refusal::RoomTooSmall.to_string(), "the room lent is too small");
         assert!(Refusal::OutOfRange.to_string().ends_with("or the state isn't sound"));

@@ -9,7 +9,7 @@ use core::fmt;
 pub const REPORTS: usize = 10;
 pub(crate) const REPORT_BYTES: usize = 20;
 
-/// Which of E87's state models a report speaks of. Models 1 to 4 belong to a port, 5 to 8 to a carrier.
+/// Which of E87's state models a report speaks of. Models 1 to 4 and 9 belong to a port, 5 to 8 to a carrier.
 #[derive(Clone, Copy, Debug, PartialEq, Eq, PartialOrd, Ord, Hash)]
 #[repr(u8)]
 pub enum Model {
@@ -29,11 +29,13 @@ pub enum Model {
     Accessing = 7,
     /// 8: a carrier's prediction of ready to unload, in fixed buffer tools alone.
     Prediction = 8,
+    /// 9: a port's AccessModeViolation alarm. Its report is the last of an input.
+    Alarm = 9,
 }
 
 impl Model {
-    /// All eight, by number.
-    pub const ALL: [Model; 8] = [
+    /// All nine, by number.
+    pub const ALL: [Model; 9] = [
         Model::Transfer,
         Model::Access,
         Model::Reservation,
@@ -42,20 +44,21 @@ impl Model {
         Model::Slot,
         Model::Accessing,
         Model::Prediction,
+        Model::Alarm,
     ];
 
-    /// The documents' number, 1 to 8.
+    /// The documents' number, 1 to 9.
     pub const fn number(self) -> u8 {
         self as u8
     }
 
-    /// The model of a number; none outside 1 to 8.
+    /// The model of a number; none outside 1 to 9.
     pub fn from_number(number: u8) -> Option<Model> {
         Model::ALL.into_iter().find(|model| model.number() == number)
     }
 
     /// The table of SEMI E87-0312 that has the model's transitions; those of model 8 are in the same table of document
-    /// 000, which revises E87-0921.
+    /// 000, which revises E87-0921. An alarm has no transitions: Table 38 lists it.
     pub const fn table(self) -> u8 {
         match self {
             Model::Transfer => 5,
@@ -63,6 +66,7 @@ impl Model {
             Model::Reservation => 10,
             Model::Tie => 11,
             Model::Id | Model::Slot | Model::Accessing | Model::Prediction => 7,
+            Model::Alarm => 38,
         }
     }
 
@@ -85,6 +89,7 @@ impl Model {
             Model::Slot => words::slot(number),
             Model::Accessing => words::accessing(number),
             Model::Prediction => words::prediction(number),
+            Model::Alarm => words::alarm(number),
         }
     }
 }
@@ -99,7 +104,7 @@ impl fmt::Display for Model {
 /// What a report speaks of.
 #[derive(Clone, Copy, Debug, PartialEq, Eq, Hash)]
 pub enum Subject {
-    /// A port, by number: models 1 to 4.
+    /// A port, by number: models 1 to 4 and 9.
     Port(u8),
     /// A carrier, by name: models 5 to 8.
     Carrier(Name),
@@ -186,12 +191,14 @@ impl Reports {
     fn report(&self, place: usize) -> Report {
         let start = 1 + place * REPORT_BYTES;
         let entry = &self.bytes[start..start + REPORT_BYTES];
-        let model = Model::from_number(entry[0]).expect("the machine reports models 1 to 8");
+        let model = Model::from_number(entry[0]).expect("the machine reports models 1 to 9");
         let mut name = [0; NAME_BYTES];
         name.copy_from_slice(&entry[2..2 + NAME_BYTES]);
         let subject = match model {
-            Model::Transfer | Model::Access | Model::Reservation | Model::Tie => Subject::Port(entry[1]),
-            _ => Subject::Carrier(Name::new(name)),
+            Model::Id | Model::Slot | Model::Accessing | Model::Prediction => {
+                Subject::Carrier(Name::new(name))
+            }
+            _ => Subject::Port(entry[1]),
         };
         Report { model, subject, old: entry[18], new: entry[19] }
     }
@@ -230,7 +237,7 @@ impl core::iter::FusedIterator for Reports {}
 /// use hawsermole::{Input, Tool};
 ///
 /// let mut tool = Tool::setup(2, 0).unwrap();
-/// assert_eq!(tool.step(&Input::LoadStart { port: 2 }).unwrap().to_string(), "1 2 1>3");
+/// assert_eq!(tool.step(&Input::LoadStart { port: 2, start: 0 }).unwrap().to_string(), "1 2 1>3");
 /// assert_eq!(tool.step(&Input::LoadDone { port: 2 }).unwrap().to_string(), "none");
 /// ```
 impl fmt::Display for Reports {
@@ -304,6 +311,6 @@ mod tests {
             assert_eq!(Model::from_number(model.number()), Some(model));
         }
         assert_eq!(Model::from_number(0), None);
-        assert_eq!(Model::from_number(9), None);
+        assert_eq!(Model::from_number(10), None);
     }
 }

@@ -30,7 +30,7 @@ impl Tool {
     ///
     /// let mut tool = Tool::setup(2, 2)?;
     /// for (place, name) in [(1, b"A"), (2, b"B")] {
-    ///     tool.step(&Input::LoadStart { port: 1 })?;
+    ///     tool.step(&Input::LoadStart { port: 1, start: 0 })?;
     ///     tool.step(&Input::LoadDone { port: 1 })?;
     ///     tool.step(&Input::IdRead { port: 1, name })?;
     ///     tool.step(&Input::ProceedWithCarrier { name, port: 0 })?;
@@ -38,7 +38,7 @@ impl Tool {
     /// }
     ///
     /// // Port 1 is busy; both requests are for it, and wait.
-    /// tool.step(&Input::LoadStart { port: 1 })?;
+    /// tool.step(&Input::LoadStart { port: 1, start: 0 })?;
     /// tool.step(&Input::CarrierOut { name: b"B", port: 1 })?;
     /// tool.step(&Input::CarrierOut { name: b"A", port: 1 })?;
     /// assert_eq!(tool.step(&Input::OutStart { port: 1 }), Err(Refusal::Conditions));
@@ -48,7 +48,7 @@ impl Tool {
     /// assert_eq!(tool.step(&Input::OutStart { port: 1 })?.to_string(), "3 1 0>1");
     /// let queue: Vec<_> = tool.requests().map(|r| (r.name.to_string(), r.port, r.started)).collect();
     /// assert_eq!(queue, [("B".to_string(), 1, 1), ("A".to_string(), 1, 0)]);
-    /// assert_eq!(tool.step(&Input::LoadStart { port: 1 }), Err(Refusal::ReservedOrTied));
+    /// assert_eq!(tool.step(&Input::LoadStart { port: 1, start: 0 }), Err(Refusal::ReservedOrTied));
     ///
     /// // It stands on the port.
     /// assert_eq!(tool.step(&Input::OutDone { port: 1 })?.to_string(), "1 1 1>2; 3 1 1>0; 4 1 0>1");

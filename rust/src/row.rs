@@ -19,6 +19,8 @@ pub enum Argument {
     Place,
     /// 0 complete, 1 stopped.
     End,
+    /// 0 manual, 1 automatic: who moves the pod.
+    Start,
     /// The 25 codes of a slot map.
     Codes,
     /// The 25 codes of an expected map, or none. It stands last, and may be left out.
@@ -43,6 +45,7 @@ impl Argument {
             Argument::Service => "service",
             Argument::Place => "place",
             Argument::End => "end",
+            Argument::Start => "start",
             Argument::Codes => "codes",
             Argument::MapOrNone => "map",
             Argument::Clock => "clock",
@@ -56,7 +59,7 @@ impl Argument {
 /// A row of document 01, or of a request: one kind of input.
 #[derive(Clone, Copy, Debug, PartialEq, Eq)]
 pub struct Row {
-    /// 1 to 35.
+    /// 1 to 36.
     pub number: u32,
     /// The documents' name.
     pub name: &'static str,
@@ -69,14 +72,14 @@ pub struct Row {
 }
 
 impl Row {
-    /// The row of a number; none outside 1 to 35.
+    /// The row of a number; none outside 1 to 36.
     ///
     /// ```
     /// use hawsermole::Row;
     ///
     /// assert_eq!(Row::numbered(20).unwrap().name, "SlotMap");
     /// assert_eq!(Row::numbered(0), None);
-    /// assert_eq!(Row::numbered(36), None);
+    /// assert_eq!(Row::numbered(37), None);
     /// ```
     pub fn numbered(number: u32) -> Option<&'static Row> {
         ROWS.iter().find(|row| row.number == number)
@@ -120,7 +123,8 @@ impl Taker {
 }
 
 use Argument::{
-    Access, Clock, Codes, End, MapOrNone, Name, NameOrNone, Place, Port, PortOrNone, Service, Te, Tp, Wafers,
+    Access, Clock, Codes, End, MapOrNone, Name, NameOrNone, Place, Port, PortOrNone, Service, Start, Te, Tp,
+    Wafers,
 };
 
 const fn row(number: u32, name: &'static str, arguments: &'static [Argument], text: &'static str) -> Row {
@@ -133,8 +137,8 @@ impl Row {
     }
 }
 
-/// The 35 rows, by number.
-pub const ROWS: [Row; 35] = [
+/// The 36 rows, by number.
+pub const ROWS: [Row; 36] = [
     row(
         1,
         "Bind",
@@ -164,8 +168,8 @@ pub const ROWS: [Row; 35] = [
         .needs("the port READY TO LOAD"),
     row(11, "ReserveAtPort", &[Port], "reserve a port").needs("the port READY TO LOAD"),
     row(12, "CancelReservationAtPort", &[Port], "end a port's reservation").needs("the port RESERVED"),
-    row(13, "LoadStart", &[Port], "a pod starts to arrive").needs("the port READY TO LOAD"),
-    row(14, "LoadDone", &[Port], "the pod has arrived").needs("the port loading"),
+    row(13, "LoadStart", &[Port, Start], "a pod starts to arrive").needs("the port READY TO LOAD"),
+    row(14, "LoadDone", &[Port], "the pod has arrived").needs("the port loading, and no pod held there"),
     row(15, "LoadFail", &[Port], "the pod didn't arrive").needs("the port loading"),
     row(16, "IdRead", &[Port, Name], "the pod's tag was read")
         .needs("a pod present, the port idle, the tag unread"),
@@ -181,7 +185,7 @@ pub const ROWS: [Row; 35] = [
     row(21, "AccessStart", &[Name], "access to the wafers starts").needs("the carrier open and NOT ACCESSED"),
     row(22, "AccessEnd", &[Name, End], "access to the wafers is over").needs("the carrier IN ACCESS"),
     row(23, "Close", &[Name], "close a carrier").needs("the carrier open and not IN ACCESS"),
-    row(24, "UnloadStart", &[Port], "a pod starts to leave").needs("the port READY TO UNLOAD"),
+    row(24, "UnloadStart", &[Port, Start], "a pod starts to leave").needs("the port READY TO UNLOAD"),
     row(25, "UnloadDone", &[Port], "the pod has left").needs("the port unloading"),
     row(26, "UnloadFail", &[Port], "the pod didn't leave").needs("the port unloading"),
     row(27, "OutStart", &[Port], "start the oldest CarrierOut that is ready for a port").needs(
@@ -203,6 +207,7 @@ pub const ROWS: [Row; 35] = [
     row(35, "Wafers", &[Clock, Name, Wafers], "predict ready to unload by the times of the carrier's wafers").needs(
         "a tool without a buffer, and the carrier's prediction WAITING FOR PREDICTION and without a predicted time",
     ),
+    row(36, "Continue", &[Port], "the pod that is held stays: the load goes on").needs("a pod held at the port"),
 ];
 
 #[cfg(test)]
@@ -274,6 +279,6 @@ mod tests {
             };
             assert_eq!(Taker::of(row.number), taker, "{}", row.name);
         }
-        assert!([0, 36, 256 + 31, 256 + 35].map(Taker::of).iter().all(|taker| *taker == Taker::Step));
+        assert!([0, 37, 256 + 31, 256 + 35].map(Taker::of).iter().all(|taker| *taker == Taker::Step));
     }
 }

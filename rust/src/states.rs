@@ -3,13 +3,13 @@
 //! A tool holds numbers, because one that isn't sound may hold any; these are the numbers that mean something.
 //!
 //! ```
-//! use hawsermole::states::{AccessMode, State, Transfer};
+//! use hawsermole::states::{AccessMode, Start, State, Transfer};
 //! use hawsermole::{Input, Tool};
 //!
 //! let mut tool = Tool::setup(1, 0).unwrap();
-//! let auto = AccessMode::Auto as u32;
+//! let (auto, vehicle) = (AccessMode::Auto as u32, Start::Automatic as u32);
 //! tool.step(&Input::ChangeAccess { port: 1, access: auto }).unwrap();
-//! let mut reports = tool.step(&Input::LoadStart { port: 1 }).unwrap();
+//! let mut reports = tool.step(&Input::LoadStart { port: 1, start: vehicle }).unwrap();
 //!
 //! let port = tool.ports().next().unwrap();
 //! assert_eq!(Transfer::from_number(port.transfer), Some(Transfer::Blocked));
@@ -167,6 +167,22 @@ states! {
 }
 
 states! {
+    /// A port's AccessModeViolation alarm, model 9.
+    Alarm {
+        Off = 0, "off";
+        On = 1, "on";
+    }
+}
+
+states! {
+    /// Whether a pod is held at a port, which no report shows.
+    Held {
+        NotHeld = 0, "not held";
+        Held = 1, "held";
+    }
+}
+
+states! {
     /// A port's movement, which no report shows.
     Movement {
         None = 0, "idle";
@@ -229,7 +245,15 @@ states! {
     }
 }
 
-/// A state of one of the eight models, as a report has it.
+states! {
+    /// The value of LoadStart and UnloadStart: who moves the pod. [`AccessMode`] says for whom the port is.
+    Start {
+        Manual = 0, "manual";
+        Automatic = 1, "automatic";
+    }
+}
+
+/// A state of one of the nine models, as a report has it.
 #[derive(Clone, Copy, Debug, PartialEq, Eq, Hash)]
 pub enum State {
     /// Models 5 to 8: the carrier has no record.
@@ -250,6 +274,8 @@ pub enum State {
     Accessing(Accessing),
     /// Model 8.
     Prediction(PredictionState),
+    /// Model 9.
+    Alarm(Alarm),
 }
 
 impl State {
@@ -268,6 +294,7 @@ impl State {
             Model::Access => AccessMode::from_number(number).map(State::Access),
             Model::Reservation => Reservation::from_number(number).map(State::Reservation),
             Model::Tie => Association::from_number(number).map(State::Tie),
+            Model::Alarm => Alarm::from_number(number).map(State::Alarm),
             _ if number == 0 => Some(State::NoRecord),
             Model::Id => IdStatus::from_number(number).map(State::Id),
             Model::Slot => SlotStatus::from_number(number).map(State::Slot),
@@ -288,6 +315,7 @@ impl State {
             State::Slot(state) => state.number(),
             State::Accessing(state) => state.number(),
             State::Prediction(state) => state.number(),
+            State::Alarm(state) => state.number(),
         }
     }
 
@@ -303,6 +331,7 @@ impl State {
             State::Slot(state) => state.word(),
             State::Accessing(state) => state.word(),
             State::Prediction(state) => state.word(),
+            State::Alarm(state) => state.word(),
         }
     }
 }
@@ -341,6 +370,9 @@ mod tests {
         both_ways!(SlotStatus, (1..=4));
         both_ways!(Accessing, (1..=4));
         both_ways!(PredictionState, (1..=6));
+        both_ways!(Alarm, (0..=1));
+        both_ways!(Held, (0..=1));
+        both_ways!(Start, (0..=1));
         both_ways!(Movement, (0..=2));
         both_ways!(Tag, (0..=2));
         both_ways!(Place, (0..=2));

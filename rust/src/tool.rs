@@ -25,7 +25,7 @@ pub const SECS_DEPTH: usize = 6;
 
 pub(crate) const HEAD_BYTES: usize = 3;
 pub(crate) const PORT_BYTES: usize = 22;
-pub(crate) const SPARE_BYTES: usize = 294;
+pub(crate) const SPARE_BYTES: usize = 286;
 const CARRIERS_START: usize = HEAD_BYTES + PORTS * PORT_BYTES;
 const MAPS_START: usize = QUEUE_START - RECORDS * SLOTS;
 
@@ -47,7 +47,7 @@ const MAPS_START: usize = QUEUE_START - RECORDS * SLOTS;
 /// damaged[0] = 5;
 /// let mut damaged = Tool::from_bytes(&damaged);
 /// assert!(!damaged.is_sound());
-/// assert_eq!(damaged.step(&Input::LoadStart { port: 1 }), Err(Refusal::OutOfRange));
+/// assert_eq!(damaged.step(&Input::LoadStart { port: 1, start: 0 }), Err(Refusal::OutOfRange));
 /// # Ok::<(), Refusal>(())
 /// ```
 #[derive(Clone, PartialEq, Eq)]
@@ -97,7 +97,7 @@ impl Tool {
     ///
     /// let mut none = Tool::none();
     /// assert!(!none.is_sound());
-    /// assert_eq!(none.step(&Input::LoadStart { port: 1 }), Err(Refusal::OutOfRange));
+    /// assert_eq!(none.step(&Input::LoadStart { port: 1, start: 0 }), Err(Refusal::OutOfRange));
     /// ```
     pub const fn none() -> Tool {
         Tool { bytes: [0; TOOL_BYTES] }
@@ -124,7 +124,8 @@ impl Tool {
 
     /// The tool's bytes: ports, places, records; 4 ports of 22 bytes; 36 carriers of 50 bytes; their 36 expected
     /// maps of 25 bytes; the number of requests queued, and 16 of them of 18 bytes; clock, setting time and timeout of 4
-    /// bytes each, the low one first; the carriers' 36 predictions of 11 bytes; 294 bytes that are zero.
+    /// bytes each, the low one first; the carriers' 36 predictions of 11 bytes; alarm and held of the 4 ports, of a byte each;
+    /// 286 bytes that are zero.
     pub const fn as_bytes(&self) -> &[u8; TOOL_BYTES] {
         &self.bytes
     }
@@ -141,10 +142,10 @@ impl Tool {
     ///
     /// let mut tool = Tool::setup(1, 0).unwrap();
     /// let ignored = Parts { value: 77, name: b"ignored", codes: b"ignored", clock: 77, time: 77, ..Parts::default() };
-    /// let load = Parts { number: 13, port: 1, ..ignored };
-    /// assert_eq!(tool.step_parts(&load).unwrap().len(), 1);
-    /// assert_eq!(tool.step_parts(&Parts { number: 36, ..load }), Err(Refusal::OutOfRange));
-    /// assert_eq!(tool.step_parts(&Parts { port: 257, ..load }), Err(Refusal::OutOfRange));
+    /// let reserve = Parts { number: 11, port: 1, ..ignored };
+    /// assert_eq!(tool.step_parts(&reserve).unwrap().len(), 1);
+    /// assert_eq!(tool.step_parts(&Parts { number: 37, ..reserve }), Err(Refusal::OutOfRange));
+    /// assert_eq!(tool.step_parts(&Parts { port: 257, ..reserve }), Err(Refusal::OutOfRange));
     ///
     /// // Bind names the codes: none, or an expected map.
     /// let bind = Parts { number: 1, port: 1, name: b"AB", codes: b"no map", ..ignored };
@@ -273,7 +274,7 @@ impl Tool {
     /// assert_eq!(tool.waiting(), Waiting { first: None, read: 1 });
     ///
     /// // A pod that nobody announced: the host has to judge its name.
-    /// tool.step(&Input::LoadStart { port: 1 }).unwrap();
+    /// tool.step(&Input::LoadStart { port: 1, start: 0 }).unwrap();
     /// tool.step(&Input::LoadDone { port: 1 }).unwrap();
     /// tool.step(&Input::IdRead { port: 1, name: b"AC" }).unwrap();
     /// assert_eq!(tool.waiting(), Waiting { first: Some(1), read: 2 });
@@ -320,6 +321,7 @@ impl fmt::Debug for Tool {
             .field("setting", &self.setting())
             .field("timeout", &self.timeout())
             .field("predictions", &printed(|f| f.debug_list().entries(self.predictions()).finish()))
+            .field("hands", &printed(|f| f.debug_list().entries(self.hands()).finish()))
             .finish()
     }
 }
@@ -543,7 +545,8 @@ mod tests {
         let text = format!("{tool:?}");
         assert!(text.starts_with("Tool { places: 2, ports: [Port { number: 1, transfer: 1,"), "{text}");
         assert!(text.contains("carriers: [Carrier { name: Name(\"AB\")"), "{text}");
-        let end = "expected_maps: {}, requests: [], clock: 0, setting: 0, timeout: 0, predictions: [] }";
+        let end = "expected_maps: {}, requests: [], clock: 0, setting: 0, timeout: 0, predictions: [], \
+                   hands: [Hands { port: 1, alarm: 0, held: 0 }] }";
         assert!(text.ends_with(end), "{text}");
         let map = ExpectedMap::new(&[3; SLOTS]).unwrap();
         tool.step(&Input::BindWithMap { port: 1, name: b"C", map }).unwrap();

@@ -18,6 +18,7 @@ pub const fn model(model: Model) -> &'static str {
         Model::Slot => "slot map status",
         Model::Accessing => "accessing status",
         Model::Prediction => "ready to unload prediction status",
+        Model::Alarm => "AccessModeViolation alarm",
     }
 }
 
@@ -61,6 +62,21 @@ pub fn prediction(number: u8) -> &'static str {
     State::of(Model::Prediction, number).map_or(OUT, State::word)
 }
 
+/// A port's AccessModeViolation alarm, model 9.
+pub fn alarm(number: u8) -> &'static str {
+    Alarm::from_number(number).map_or(OUT, Alarm::word)
+}
+
+/// Whether a pod is held at a port.
+pub fn held(number: u8) -> &'static str {
+    Held::from_number(number).map_or(OUT, Held::word)
+}
+
+/// Who starts to load or unload.
+pub fn start(number: u8) -> &'static str {
+    Start::from_number(number).map_or(OUT, Start::word)
+}
+
 /// A port's movement.
 pub fn movement(number: u8) -> &'static str {
     Movement::from_number(number).map_or(OUT, Movement::word)
@@ -100,7 +116,7 @@ mod tests {
     /// Each table with the last number that has a word.
     #[test]
     fn every_number_of_the_documents_has_a_word() {
-        let tables: [(Table, u8); 13] = [
+        let tables: [(Table, u8); 16] = [
             (transfer, 3),
             (access, 1),
             (reservation, 1),
@@ -109,6 +125,9 @@ mod tests {
             (slot, 4),
             (accessing, 4),
             (prediction, 6),
+            (alarm, 1),
+            (held, 1),
+            (start, 1),
             (movement, 2),
             (tag, 2),
             (place, 2),
@@ -130,5 +149,7 @@ mod tests {
         assert_eq!((slot(3), slot(4)), ("SLOT MAP VERIFICATION OK", "SLOT MAP VERIFICATION FAILED"));
         assert_eq!((accessing(2), accessing(4)), ("IN ACCESS", "CARRIER STOPPED"));
         assert_eq!((prediction(2), prediction(6)), ("WAITING FOR CARRIER", "PREDICTION COMPLETED"));
+        assert_eq!((alarm(0), alarm(1), held(0), held(1)), ("off", "on", "not held", "held"));
+        assert_eq!((start(0), start(1)), ("manual", "automatic"));
     }
 }

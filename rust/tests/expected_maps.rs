@@ -12,7 +12,7 @@ fn open(announced: Input) -> Tool {
     let mut tool = Tool::setup(1, 0).unwrap();
     for input in [
         announced,
-        Input::LoadStart { port: 1 },
+        Input::LoadStart { port: 1, start: 0 },
         Input::LoadDone { port: 1 },
         Input::IdRead { port: 1, name: b"AB" },
         Input::Open { name: b"AB" },

@@ -15,7 +15,7 @@ fn the_twelve_rows() {
             Input::Bind { port: 1, name: b"AB" },
             accepted("3 1 0>1; 4 1 0>1; 5 AB 0>1; 6 AB 0>1; 7 AB 0>1; 8 AB 0>2"),
         ),
-        (Input::LoadStart { port: 1 }, accepted("1 1 1>3; 3 1 1>0")),
+        (Input::LoadStart { port: 1, start: 0 }, accepted("1 1 1>3; 3 1 1>0")),
         (Input::LoadDone { port: 1 }, accepted("none")),
         (
             Input::IdRead { port: 1, name: b"AC" },
@@ -44,7 +44,7 @@ fn the_twelve_rows() {
 fn the_views_after_the_run() {
     let mut tool = Tool::setup(2, 0).unwrap();
     for input in [
-        Input::LoadStart { port: 2 },
+        Input::LoadStart { port: 2, start: 0 },
         Input::LoadDone { port: 2 },
         Input::IdRead { port: 2, name: b"0123456789abcdef" },
         Input::ProceedWithCarrier { name: b"0123456789abcdef", port: 2 },
@@ -76,7 +76,7 @@ fn odd_names_and_codes_are_answered() {
         assert_eq!(tool.step(&Input::SlotMap { name: b"A", codes }), Err(Refusal::OutOfRange));
     }
     assert_eq!(tool.step(&Input::SlotMap { name: b"A", codes: MAP }), Err(Refusal::Conditions));
-    assert_eq!(tool.step(&Input::LoadStart { port: 257 }), Err(Refusal::OutOfRange));
+    assert_eq!(tool.step(&Input::LoadStart { port: 257, start: 0 }), Err(Refusal::OutOfRange));
 }
 
 #[test]

@@ -62,7 +62,7 @@ fn twelve() -> Log {
     let (ac, codes) = (b"AC", &[3; 25]);
     let inputs = [
         Input::Bind { port: 1, name: b"AB" },
-        Input::LoadStart { port: 1 },
+        Input::LoadStart { port: 1, start: 0 },
         Input::LoadDone { port: 1 },
         Input::IdRead { port: 1, name: ac },
         Input::Open { name: ac },
@@ -201,7 +201,7 @@ fn no_request_reaches_a_log() {
 #[test]
 fn no_queue_reaches_a_log() {
     let stored = [
-        Input::LoadStart { port: 1 },
+        Input::LoadStart { port: 1, start: 0 },
         Input::LoadDone { port: 1 },
         Input::IdRead { port: 1, name: b"A" },
         Input::ProceedWithCarrier { name: b"A", port: 0 },
@@ -233,6 +233,27 @@ fn no_prediction_reaches_a_log() {
     log.bytes.extend(*b"\x04\0\0\x01A\0\x01\x08\x01\x02\0");
     let Verdict::Disagrees { entry: 6, at: begins, given } = judged(&log.bytes) else { panic!() };
     assert_eq!((begins, given.unwrap().to_string()), (at, "5 A 1>0; 6 A 1>0; 7 A 1>0".into()));
+}
+
+/// The second number of rows 13 and 24 is any, no hand raises an alarm or has its pod held, and Continue is no input.
+#[test]
+fn no_hands_reach_a_log() {
+    let mut log = Log::new(1, 0);
+    log.bytes.extend(*b"\x09\x01\x01\0\0\x01\x02\x01\0\x01");
+    for second in [0, 1, 2, 255] {
+        log.bytes.extend([13, 1, second, 0, 0, 1, 1, 1, 1, 3]);
+        log.bytes.extend(*b"\x0f\x01\0\0\0\x01\x01\x01\x03\x01");
+    }
+    log.bytes.extend(*b"\x0d\x01\0\0\0\x01\x01\x01\x01\x03");
+    log.bytes.extend(*b"\x24\x01\0\0\x01\0");
+    assert_eq!(judged(&log.bytes), Verdict::Agrees { entries: 11 });
+    // Loaded at once: a second LoadDone is refused because nothing is loading, not because a pod is held.
+    log.bytes.extend(*b"\x0e\x01\0\0\0\0\x0e\x01\0\0\x05\0\x11\x01\0\0\0\0");
+    assert_eq!(judged(&log.bytes), Verdict::Agrees { entries: 14 });
+    let at = log.bytes.len();
+    log.bytes.extend(*b"\x0d\x01\x01\0\x0d\0");
+    let given = Err(Refusal::Conditions);
+    assert_eq!(judged(&log.bytes), Verdict::Disagrees { entry: 14, at, given });
 }
 
 #[test]

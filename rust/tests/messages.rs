@@ -28,9 +28,11 @@ fn slot_map(codes: &[u8]) -> Vec<u8> {
 /// Port 1 is free, and at port 2 CD waits for the host.
 fn tool() -> Tool {
     let mut tool = Tool::setup(2, 0).unwrap();
-    for input in
-        [Input::LoadStart { port: 2 }, Input::LoadDone { port: 2 }, Input::IdRead { port: 2, name: b"CD" }]
-    {
+    for input in [
+        Input::LoadStart { port: 2, start: 0 },
+        Input::LoadDone { port: 2 },
+        Input::IdRead { port: 2, name: b"CD" },
+    ] {
         tool.step(&input).unwrap();
     }
     tool

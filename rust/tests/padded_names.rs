@@ -11,7 +11,7 @@ fn run(name: &[u8]) -> Vec<Input<'_>> {
         Input::CancelBind { port: 0, name },
         Input::CarrierNotification { name },
         Input::CancelCarrierNotification { name },
-        Input::LoadStart { port: 1 },
+        Input::LoadStart { port: 1, start: 0 },
         Input::LoadDone { port: 1 },
         Input::IdRead { port: 1, name },
         Input::ProceedWithCarrier { name, port: 1 },
@@ -29,7 +29,7 @@ fn run(name: &[u8]) -> Vec<Input<'_>> {
         Input::OutDone { port: 1 },
         Input::CarrierIn { name },
         Input::CancelCarrier { name, port: 1 },
-        Input::UnloadStart { port: 1 },
+        Input::UnloadStart { port: 1, start: 0 },
         Input::UnloadDone { port: 1 },
         Input::BindWithMap { port: 1, name, map },
     ]
@@ -39,7 +39,7 @@ fn run(name: &[u8]) -> Vec<Input<'_>> {
 fn predicted_run<'a>(name: &'a [u8], predicts: Input<'a>) -> Vec<Input<'a>> {
     let codes = &[3; 25];
     vec![
-        Input::LoadStart { port: 1 },
+        Input::LoadStart { port: 1, start: 0 },
         Input::LoadDone { port: 1 },
         Input::IdRead { port: 1, name },
         Input::ProceedWithCarrier { name, port: 1 },

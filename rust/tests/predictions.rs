@@ -14,7 +14,7 @@ fn access(tool: &mut Tool, port: u32, name: &[u8]) {
     play(
         tool,
         &[
-            Input::LoadStart { port },
+            Input::LoadStart { port, start: 0 },
             Input::LoadDone { port },
             Input::IdRead { port, name },
             Input::ProceedWithCarrier { name, port },
@@ -63,7 +63,7 @@ fn a_prediction_that_comes_true() {
     assert_eq!((tool.clock(), tool.prediction(A).unwrap().tp), (1040, Some(1100)));
     play(&mut tool, &[Input::AccessEnd { name: A, end: 0 }]);
     assert_eq!(told(&mut tool, Input::Close { name: A }), "1 1 3>2; 8 A 4>6");
-    play(&mut tool, &[Input::UnloadStart { port: 1 }]);
+    play(&mut tool, &[Input::UnloadStart { port: 1, start: 0 }]);
     let gone = told(&mut tool, Input::UnloadDone { port: 1 });
     assert_eq!(gone, "1 1 3>1; 4 1 1>0; 5 A 3>0; 6 A 3>0; 7 A 3>0; 8 A 6>0");
     assert_eq!(tool.prediction(A), None);
@@ -128,7 +128,7 @@ fn a_cancelled_carrier_goes_all_the_way_at_once() {
         &mut tool,
         &[
             clock(500),
-            Input::LoadStart { port: 1 },
+            Input::LoadStart { port: 1, start: 0 },
             Input::LoadDone { port: 1 },
             Input::IdReadFailed { port: 1 },
         ],

@@ -8,7 +8,7 @@ fn stored(names: &[u8]) -> Tool {
     for (place, name) in (1..).zip(names) {
         let name = std::slice::from_ref(name);
         for input in [
-            Input::LoadStart { port: 1 },
+            Input::LoadStart { port: 1, start: 0 },
             Input::LoadDone { port: 1 },
             Input::IdRead { port: 1, name },
             Input::ProceedWithCarrier { name, port: 1 },
@@ -54,7 +54,7 @@ fn what_is_started_runs_on() {
     play(&mut tool, &[a, b, Input::OutStart { port: 1 }]);
     for (input, refusal) in [
         (Input::Open { name: b"A" }, Refusal::Conditions),
-        (Input::LoadStart { port: 1 }, Refusal::ReservedOrTied),
+        (Input::LoadStart { port: 1, start: 0 }, Refusal::ReservedOrTied),
         (Input::CancelReservationAtPort { port: 1 }, Refusal::ReservedOrTied),
         (Input::CancelCarrierOut { name: b"A" }, Refusal::Conditions),
         (Input::OutStart { port: 1 }, Refusal::ReservedOrTied),

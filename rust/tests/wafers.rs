@@ -10,7 +10,7 @@ const LONGEST: f64 = 1_048_576.0 - PART;
 fn accessed() -> Tool {
     let mut tool = Tool::setup_with_times(1, 0, 60, 120).unwrap();
     for input in [
-        Input::LoadStart { port: 1 },
+        Input::LoadStart { port: 1, start: 0 },
         Input::LoadDone { port: 1 },
         Input::IdRead { port: 1, name: A },
         Input::ProceedWithCarrier { name: A, port: 1 },

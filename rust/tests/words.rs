@@ -18,8 +18,8 @@ fn lines() -> Vec<String> {
     let mut lines: Vec<String> =
         (0..=27).map(|number| format!("answer {number}: {}", answer(number))).collect();
     lines.extend((0..=30).map(|number| format!("verdict {number}: {}", verdict(number))));
-    lines.extend((0..=36).map(|number| format!("input {number}: {}", input(number))));
-    lines.extend((0..=9).map(|number| format!("model {number}: {}", model(number))));
+    lines.extend((0..=37).map(|number| format!("input {number}: {}", input(number))));
+    lines.extend((0..=10).map(|number| format!("model {number}: {}", model(number))));
     for model in Model::ALL {
         lines
             .extend((0..=7).map(|state| format!("state {} {state}: {}", model.number(), model.state(state))));
@@ -28,6 +28,8 @@ fn lines() -> Vec<String> {
     lines.extend((0..=3).map(|number| format!("tag {number}: {}", words::tag(number))));
     lines.extend((0..=3).map(|number| format!("place {number}: {}", words::place(number))));
     lines.extend((0..=2).map(|number| format!("request {number}: {}", words::request(number))));
+    lines.extend((0..=2).map(|number| format!("start {number}: {}", words::start(number))));
+    lines.extend((0..=2).map(|number| format!("held {number}: {}", words::held(number))));
     lines.extend((0..=6).map(|number| format!("code {number}: {}", words::slot_code(number))));
     lines
 }

@@ -20,9 +20,9 @@ static void print_all(void)
 
     print("answer", hm_answer_text, 0, 27);
     print("verdict", hm_verdict_text, 0, 30);
-    print("input", hm_input_text, 0, 36);
-    print("model", hm_model_text, 0, 9);
-    for (model = HM_MODEL_TRANSFER; model <= HM_MODEL_PREDICTION; model++) {
+    print("input", hm_input_text, 0, 37);
+    print("model", hm_model_text, 0, 10);
+    for (model = HM_MODEL_TRANSFER; model <= HM_MODEL_ALARM; model++) {
         for (state = 0; state <= 7; state++) {
             printf("state %u %u: %s\n", model, state, hm_state_text(model, state));
         }
@@ -31,6 +31,8 @@ static void print_all(void)
     print("tag", hm_tag_text, 0, 3);
     print("place", hm_place_text, 0, 3);
     print("request", hm_started_text, 0, 2);
+    print("start", hm_start_text, 0, 2);
+    print("held", hm_held_text, 0, 2);
     print("code", hm_code_text, 0, 6);
 }
 
@@ -42,7 +44,8 @@ static void far_numbers(void)
     CHECK(strcmp(hm_input_text(UINT32_MAX), out) == 0 && strcmp(hm_model_text(UINT32_MAX), out) == 0);
     CHECK(strcmp(hm_state_text(0, 0), out) == 0 && strcmp(hm_state_text(UINT32_MAX, 0), out) == 0);
     CHECK(strcmp(hm_state_text(HM_MODEL_ID, 257), out) == 0 && strcmp(hm_code_text(UINT32_MAX), out) == 0);
-    CHECK(strcmp(hm_started_text(UINT32_MAX), out) == 0);
+    CHECK(strcmp(hm_started_text(UINT32_MAX), out) == 0 && strcmp(hm_start_text(256), out) == 0);
+    CHECK(strcmp(hm_held_text(UINT32_MAX), out) == 0 && strcmp(hm_state_text(HM_MODEL_ALARM, 257), out) == 0);
 }
 
 static void carriers_by_name(void)

@@ -365,7 +365,7 @@ fn late_clock(met: &mut Met) {
 /// Sound states that no run reaches: some by chance, and MoveIn of a pod whose carrier has another ID status, or none.
 fn odd_tools(met: &mut Met, dice: &mut Dice) {
     let move_in = Sent { number: 18, port: 1, value: 1, ..Sent::default() };
-    let (start, done) = (Input::LoadStart { port: 1 }, Input::LoadDone { port: 1 });
+    let (start, done) = (Input::LoadStart { port: 1, start: 0 }, Input::LoadDone { port: 1 });
     let read = Input::IdRead { port: 1, name: A };
     let (loaded, here) = (tool(1, 1, &[start, done]), tool(1, 1, &[start, done, read]));
     for (tool, byte, value) in [(&here, 138, 1), (&here, 138, 4), (&loaded, 24, 1)] {
