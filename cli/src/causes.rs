@@ -98,11 +98,15 @@ causes! {
     NotBlocked Conditions "the port isn't TRANSFER BLOCKED"
         "the pod is on its way out: unload it; CarrierIn calls back what came out of the buffer"
     Moving Conditions "the port isn't idle"
-        "wait until LoadDone or LoadFail, UnloadDone or UnloadFail is sent"
+        "wait until LoadDone or LoadFail (Continue or LoadFail for a held pod), UnloadDone or UnloadFail is sent"
     NotLoading Conditions "no pod is being loaded"
         "LoadStart comes first. If a pod has moved, tool and floor differ: stop the port, call somebody"
     NotUnloading Conditions "no pod is being unloaded"
         "UnloadStart comes first. If a pod has moved, tool and floor differ: stop the port, call somebody"
+    PodHeld Conditions "a pod is held at the port"
+        "Continue lets it stay, LoadFail says that it was taken off again: until then it counts as still loading"
+    NothingHeld Conditions "no pod is held at the port"
+        "nothing to continue: a pod is held from LoadDone on, where the port's alarm is on"
     NoPod Conditions "no pod is at the port"
         "LoadStart and LoadDone come first. If a pod is there, tool and floor differ: stop the port, call somebody"
     TagTold Conditions "the tag was told already"
@@ -220,6 +224,9 @@ causes! {
         "send whole 1/1024ths of a second, from 0 to less than 1,048,576: times 1024, rounded up, by 1024"
     TpTooLate TimeOutOfRange "the predicted time is past the clock's range"
         "check clock and times: the last second of a clock is 4,294,967,295; NoPrediction if it is true"
+
+    ForHands AutomaticInManual "the port is MANUAL, and the start automatic"
+        "keep the vehicle away; ChangeAccess to 1 makes the port AUTO. Send manual where a hand moves the pod"
 }
 
 #[cfg(test)]

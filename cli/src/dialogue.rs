@@ -243,11 +243,13 @@ mod tests {
         assert_eq!(unmet(&mut dialogue, "expect port  1 1 0 0 - 0 0 0"), None);
         assert_eq!(unmet(&mut dialogue, "expect port 2 .."), None);
         assert_eq!(unmet(&mut dialogue, "expect time 0 0 0"), None);
+        assert_eq!(unmet(&mut dialogue, "expect alarm 1 0 0"), None);
+        assert_eq!(unmet(&mut dialogue, "expect alarm 2 .."), None);
         assert_eq!(unmet(&mut dialogue, "expect end .."), None);
         let nothing = "expected 'end ..', printed nothing more";
         assert_eq!(unmet(&mut dialogue, "expect end .."), Some(nothing.into()));
         assert_eq!(unmet(&mut dialogue, "expect .."), Some("expected '..', printed nothing more".into()));
-        assert_eq!((dialogue.expected, dialogue.unmet), (6, 2));
+        assert_eq!((dialogue.expected, dialogue.unmet), (8, 2));
     }
 
     #[test]

@@ -21,9 +21,9 @@ pub struct Told {
     pub new: u8,
 }
 
-/// Document 01's models are 1 to 7: no log has request P7's.
+/// Document 01's models are 1 to 7: no log has request P7's or P9's.
 pub fn of_document_01(report: &Report) -> bool {
-    report.model != Model::Prediction
+    report.model <= Model::Accessing
 }
 
 /// What a report of a log speaks of: a name in models 5 to 7, else a port.

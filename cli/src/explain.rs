@@ -1,5 +1,6 @@
 //! What an input, its answer and its reports mean, in E87's words: indented lines below the answer.
 use crate::grounds;
+use crate::hands;
 use crate::predictions;
 use crate::print::{self, Answer};
 use crate::queue;
@@ -64,8 +65,8 @@ pub fn waiting(tool: &Tool, Waiting { first, read }: Waiting) -> String {
 }
 
 /// A line for the input, one for the name that was used where another text was sent, one for the answer; for a refusal
-/// its causes with what to do about each; one for each report, for what a slot map was compared with, and for each
-/// change of the queue and of the predictions' times. The tools are those before and after.
+/// its causes with what to do about each; one for each report, for what a slot map was compared with, for each
+/// change of the queue and of the predictions' times, and for a hand on an AUTO port. The tools are those before and after.
 pub fn answer(before: &Tool, after: &Tool, parts: &Parts, given: &Answer) -> String {
     let row = Row::numbered(parts.number);
     let input = parts.to_string();
@@ -87,6 +88,7 @@ pub fn answer(before: &Tool, after: &Tool, parts: &Parts, given: &Answer) -> Str
     if given.is_ok() {
         lines.extend(queue::changes(before, after, parts));
         lines.extend(predictions::changes(before, after, parts, given));
+        lines.extend(hands::changes(before, after, parts));
     }
     lines.into_iter().map(|line| format!("  {line}\n")).collect()
 }
@@ -142,6 +144,7 @@ fn of_report(Report { model, subject, old, new }: Report) -> String {
         Subject::Port(port) if model == Model::Tie && old == new => {
             format!("port {port}: {is}, now with another carrier")
         }
+        Subject::Port(port) if model == Model::Alarm => format!("port {port}: {model} {was} to {is}"),
         Subject::Port(port) => format!("port {port}: {was} to {is}"),
         Subject::Carrier(name) if old == 0 => format!("carrier {name}: record made, {is}"),
         Subject::Carrier(name) if new == 0 => format!("carrier {name}: record gone, was {was}"),
@@ -200,7 +203,7 @@ mod tests {
     fn states_of_ports_and_carriers() {
         let mut tool = Tool::setup(1, 0).unwrap();
         tool.step(&Input::Bind { port: 1, name: b"AB" }).unwrap();
-        let started = "  LoadStart(1): a pod starts to arrive\n  accepted\n\
+        let started = "  LoadStart(1, manual): a pod starts to arrive\n  accepted\n\
                        \x20 port 1: READY TO LOAD to TRANSFER BLOCKED\n\
                        \x20 port 1: RESERVED to NOT RESERVED\n";
         assert_eq!(explained(&mut tool, Input::LoadStart { port: 1, start: 0 }), started);
@@ -339,17 +342,17 @@ mod tests {
             "refused, 2: the name has no record\n  because the name has no record: AB\n  next: host: check";
         assert!(unknown.starts_with(&format!("  Open(AB): open a carrier\n  {no_record}")), "{unknown}");
         let early = explained(&mut tool, Input::LoadDone { port: 1 });
-        let conditions = "refused, 5: the row's conditions on state don't hold\n  needed: the port loading\n";
+        let conditions = "refused, 5: the row's conditions on state don't hold\n  needed: the port loading, and no pod held there\n";
         let because =
             "because no pod is being loaded: port 1 is READY TO LOAD, idle\n  next: LoadStart comes first.";
         assert!(
             early.starts_with(&format!("  LoadDone(1): the pod has arrived\n  {conditions}  {because}")),
             "{early}"
         );
-        let odd = lines(&mut tool, 36, b"", &[]);
-        assert_eq!(odd[0], "36: no input has this number");
+        let odd = lines(&mut tool, 37, b"", &[]);
+        assert_eq!(odd[0], "37: no input has this number");
         assert!(odd[1].starts_with("refused, 1: a port, place,"), "{odd:?}");
-        assert_eq!(odd[2], "because no input has this number: 36; inputs are 1 to 35");
+        assert_eq!(odd[2], "because no input has this number: 37; inputs are 1 to 36");
         let none = explained(&mut Tool::none(), Input::LoadDone { port: 1 });
         assert!(none.contains("\n  because there is no tool\n  next: set one up, of 1 to 4 ports"), "{none}");
     }
@@ -414,6 +417,36 @@ mod tests {
              \x20 1 wafer takes 30.5 seconds, rounded up 31\n\
              \x20 carrier A: ready to unload at 40, 31 seconds from now\n";
         assert_eq!(sent(&[Wafer { process: 30.0, handling: 0.5 }]), expected);
+    }
+
+    #[test]
+    fn hands_on_an_auto_port() {
+        let mut tool = Tool::setup(1, 0).unwrap();
+        let vehicle = explained(&mut tool, Input::LoadStart { port: 1, start: 1 });
+        let because = "  refused, 13: an automatic start in MANUAL\n  \
+                       because the port is MANUAL, and the start automatic: port 1\n  next: keep the vehicle away";
+        assert!(vehicle.contains(because), "{vehicle}");
+        tool.step(&Input::ChangeAccess { port: 1, access: 1 }).unwrap();
+        let hand = explained(&mut tool, Input::LoadStart { port: 1, start: 0 });
+        let raised = "  LoadStart(1, manual): a pod starts to arrive\n  accepted\n\
+                      \x20 port 1: READY TO LOAD to TRANSFER BLOCKED\n\
+                      \x20 port 1: AccessModeViolation alarm off to on\n\
+                      \x20 port 1 is for vehicles, and a hand loads it: LoadDone will hold the pod, ";
+        assert!(hand.starts_with(raised), "{hand}");
+        let early = explained(&mut tool, Input::Continue { port: 1 });
+        let because = "\n  needed: a pod held at the port\n  because no pod is held at the port: \
+                       port 1 is TRANSFER BLOCKED, loading, its alarm on\n  next: nothing to continue";
+        assert!(early.contains(because), "{early}");
+        tool.step(&Input::LoadDone { port: 1 }).unwrap();
+        let again = explained(&mut tool, Input::LoadDone { port: 1 });
+        assert!(
+            again.contains("\n  because a pod is held at the port: port 1\n  next: Continue lets it stay"),
+            "{again}"
+        );
+        let stays = explained(&mut tool, Input::Continue { port: 1 });
+        let cleared = "  accepted\n  port 1: AccessModeViolation alarm on to off\n\
+                       \x20 port 1: the pod that was held stays, loaded as by LoadDone\n";
+        assert!(stays.ends_with(cleared), "{stays}");
     }
 
     /// A name of any length is sent; of a long one the beginning is told.

@@ -13,7 +13,9 @@ const CLOCK_START: usize = REQUESTS_START + REQUESTS * REQUEST_BYTES;
 const SETTING_START: usize = CLOCK_START + TIME_BYTES;
 const TIMEOUT_START: usize = SETTING_START + TIME_BYTES;
 const PREDICTIONS_START: usize = TIMEOUT_START + TIME_BYTES;
-const UNUSED_START: usize = PREDICTIONS_START + RECORDS * PREDICTION_BYTES;
+const HANDS_START: usize = PREDICTIONS_START + RECORDS * PREDICTION_BYTES;
+const UNUSED_START: usize = HANDS_START + PORTS * HANDS_BYTES;
+const HANDS_BYTES: usize = 2;
 const TIME_BYTES: usize = 4;
 const PREDICTION_BYTES: usize = 3 + 2 * TIME_BYTES;
 const NAME_BYTES: usize = 16;
@@ -43,7 +45,8 @@ pub fn out_of_range(tool: &Tool) -> Option<String> {
     let times = || of_times(tool);
     let predictions = || (1..=tool.predictions().count()).find_map(|record| of_prediction(tool, record));
     let of_01 = counts(tool).or_else(ports).or_else(carriers);
-    of_01.or_else(maps).or_else(requests).or_else(times).or_else(predictions)
+    let hands = || tool.ports().find_map(|port| of_hands(tool, &port));
+    of_01.or_else(maps).or_else(requests).or_else(times).or_else(predictions).or_else(hands)
 }
 
 fn counts(tool: &Tool) -> Option<String> {
@@ -139,6 +142,14 @@ fn of_prediction(tool: &Tool, record: usize) -> Option<String> {
     Some(format!("record {record}: {odd}"))
 }
 
+/// Alarm and held pod of a port.
+fn of_hands(tool: &Tool, port: &Port) -> Option<String> {
+    let start = HANDS_START + HANDS_BYTES * (usize::from(port.number) - 1);
+    let mut fields = [Field(start, "alarm", 0, 1), Field(start + 1, "held", 0, 1)].into_iter();
+    let odd = fields.find_map(|field| field.outside(tool))?;
+    Some(format!("port {}: {odd}", port.number))
+}
+
 /// `bytes 3084 to 3087`
 fn bytes_of_time(start: usize) -> String {
     format!("bytes {start} to {}", start + TIME_BYTES - 1)
@@ -153,7 +164,8 @@ pub fn unused(tool: &Tool) -> Option<String> {
         (CARRIERS_START + CARRIER_BYTES * records..MAPS_START, "no record"),
         (MAPS_START + SLOTS * records..QUEUE_START, "no record's map"),
         (REQUESTS_START + REQUEST_BYTES * requests..CLOCK_START, "no request"),
-        (PREDICTIONS_START + PREDICTION_BYTES * predictions..UNUSED_START, "no record's prediction"),
+        (PREDICTIONS_START + PREDICTION_BYTES * predictions..HANDS_START, "no record's prediction"),
+        (HANDS_START + HANDS_BYTES * ports..UNUSED_START, "no port's alarm"),
         (UNUSED_START..bytes.len(), "nothing"),
     ];
     unused.into_iter().filter(|(range, _)| !zeros(&bytes[range.clone()])).find_map(|(mut range, of)| {

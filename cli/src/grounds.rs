@@ -23,9 +23,12 @@ pub fn lowest(tool: &Tool, parts: &Parts) -> Vec<Ground> {
     of_lowest(all(tool, parts, ROWS.len() as u32, of_row))
 }
 
-/// The same by document 01 alone, of a tool of its own: 26 rows, and CarrierOut moves the carrier at once.
+/// The same by document 01 alone, of a tool of its own: 26 rows, CarrierOut moves the carrier at once, and nobody asks
+/// who starts to load or unload.
 pub fn lowest_by_01(tool: &Tool, parts: &Parts) -> Vec<Ground> {
-    of_lowest(all(tool, parts, row::LAST_OF_01, of_row_by_01))
+    let asked = ![row::LOAD_START, row::UNLOAD_START].contains(&parts.number);
+    let parts = Parts { value: if asked { parts.value } else { 0 }, ..*parts };
+    of_lowest(all(tool, &parts, row::LAST_OF_01, of_row_by_01))
 }
 
 fn of_lowest(mut grounds: Vec<Ground>) -> Vec<Ground> {
@@ -81,6 +84,7 @@ fn of_argument(tool: &Tool, argument: Argument, parts: &Parts) -> Option<Ground>
         Argument::Access => choice("0 is MANUAL, 1 AUTO"),
         Argument::Service => choice("0 is out of service, 1 in service"),
         Argument::End => choice("0 is complete, 1 stopped"),
+        Argument::Start => choice("0 is manual, 1 automatic"),
         Argument::Place => of_place(tool, value),
         Argument::Codes => of_codes(codes),
         Argument::MapOrNone if codes.is_empty() => None,
@@ -138,8 +142,9 @@ fn of_row(at: &Standing) -> Grounds {
         10 if !at.goes_out() => Grounds::new(),
         10 | 11 => [at.reserved(), at.tied(), at.ready_to_load()].into(),
         12 => [at.kept_for_out(), at.tied(), at.is_reserved()].into(),
-        13 => [at.kept_for_out(), at.ready_to_load()].into(),
-        14 | 15 => [at.loading()].into(),
+        row::LOAD_START => [at.kept_for_out(), at.ready_to_load(), at.for_hands()].into(),
+        row::LOAD_DONE => [at.loading(), at.held_already()].into(),
+        row::LOAD_FAIL => [at.loading()].into(),
         16 => [at.name_elsewhere()].into_iter().chain(at.readable()).collect(),
         17 => at.readable().into(),
         18 => at.move_in(),
@@ -148,7 +153,7 @@ fn of_row(at: &Standing) -> Grounds {
         21 => at.with_record(|c| at.access_start(c)),
         22 => at.with_record(|c| [at.in_access(c)].into()),
         23 => at.with_record(|c| [at.not_closed(c), at.not_in_access(c)].into()),
-        24 => [at.ready_to_unload()].into(),
+        row::UNLOAD_START => [at.ready_to_unload(), at.for_hands()].into(),
         25 | 26 => [at.unloading()].into(),
         row::OUT_START => {
             [at.reserved(), at.tied(), at.ready_to_load()].into_iter().chain(at.to_take()).collect()
@@ -160,6 +165,7 @@ fn of_row(at: &Standing) -> Grounds {
         row::ESTIMATE => at.with_record(|c| at.estimate(c)),
         row::NO_PREDICTION => at.with_record(|c| at.no_prediction(c)),
         row::WAFERS => at.with_record(|c| at.wafers(c)),
+        row::CONTINUE => [at.is_held()].into(),
         _ => Grounds::new(),
     }
 }

@@ -105,6 +105,10 @@ fn of_document_01(input: &Parts) -> (String, &'static str) {
         Some(row) if row.number == row::CARRIER_OUT => {
             (input.to_string(), "a carrier comes from the buffer to a port")
         }
+        // who starts is request P9's
+        Some(row) if [row::LOAD_START, row::UNLOAD_START].contains(&row.number) => {
+            (format!("{}({})", row.name, input.port), row.text)
+        }
         Some(row) if row.number <= row::LAST_OF_01 => (input.to_string(), row.text),
         _ => (input.number.to_string(), "no input of document 01 has this number"),
     }
@@ -144,7 +148,7 @@ fn of_report(told: &Told) -> String {
         About::Port(port) => format!("port {port}"),
         About::Name(name) => format!("carrier {}", cut(&name.escape_ascii().to_string())),
     };
-    let Some(model) = Model::from_number(told.model).filter(|model| *model != Model::Prediction) else {
+    let Some(model) = Model::from_number(told.model).filter(|model| *model <= Model::Accessing) else {
         return format!("{subject}: model {}, {} to {}", told.model, told.old, told.new);
     };
     let (was, is) = (state(model, told.old), state(model, told.new));
@@ -265,14 +269,17 @@ mod tests {
         assert_eq!(row(4, About::Port(1), 1, 1), "port 1: ASSOCIATED, now with another carrier");
         assert_eq!(row(1, About::Port(9), 1, 7), "port 9: READY TO LOAD to transfer state 7, out of range");
         assert_eq!(row(8, About::Port(1), 0, 2), "port 1: model 8, 0 to 2");
+        assert_eq!(row(9, About::Port(1), 0, 1), "port 1: model 9, 0 to 1");
         assert_eq!(row(5, name(), 0, 1), "carrier A\\xff: record made, ID NOT READ");
         assert_eq!(row(7, name(), 2, 0), "carrier A\\xff: record gone, was IN ACCESS");
         assert_eq!(answer(9), "answer 9: no answer of document 01");
+        assert_eq!(answer(13), "answer 13: no answer of document 01");
         assert_eq!(answer(14), "answer 14: no answer of document 01");
         assert_eq!(answer(20), "answer 20: no answer of document 01");
     }
 
-    /// CarrierOut is told as document 01 has it, and so is a number that a request has given a row.
+    /// CarrierOut, LoadStart and UnloadStart are told as document 01 has them, and so is a number that a request has given a
+    /// row.
     #[test]
     fn inputs_are_document_01s() {
         let told = |script: &str| {
@@ -287,6 +294,12 @@ mod tests {
         assert!(out.contains("\ndocument 01 refuses it because the port is reserved: port 2\n"), "{out}");
         let busy = told(&stored.replace("ReserveAtPort", "LoadStart"));
         assert!(busy.contains("because the port isn't READY TO LOAD: port 2 is TRANSFER BLOCKED"), "{busy}");
+        let busy = told("LoadStart 1 automatic");
+        assert!(busy.contains(": LoadStart(1), a pod starts to arrive\n"), "{busy}");
+        assert!(busy.contains("because the port isn't READY TO LOAD: port 1 is TRANSFER BLOCKED"), "{busy}");
+        let early = told("in 24 1 255 - -");
+        assert!(early.contains(": UnloadStart(1), a pod starts to leave\n"), "{early}");
+        assert!(early.contains("because the port isn't READY TO UNLOAD: port 1 is"), "{early}");
         let requested = told("in 27 1 0 - -");
         assert!(requested.contains(": 27, no input of document 01 has this number\n"), "{requested}");
         let because = "because no input has this number: 27; inputs are 1 to 26\n";

@@ -86,9 +86,10 @@ fn take(run: &mut Option<Run>, line: &[u8]) -> Result<(), String> {
 /// is an entry as of any number that has no row.
 fn requested(sent: &Sent) -> String {
     let name = Row::numbered(sent.number).map_or("", |row| row.name);
-    let instead = match sent.number > row::CANCEL_ALL_CARRIER_OUT {
-        true => "which has no predictions",
-        false => "whose CarrierOut moves the carrier at once",
+    let instead = match sent.number {
+        ..=row::CANCEL_ALL_CARRIER_OUT => "whose CarrierOut moves the carrier at once",
+        row::CONTINUE => "which holds no pod",
+        _ => "which has no predictions",
     };
     format!(
         "'{name}' is no input of document 01, {instead}: leave it out, \
@@ -129,12 +130,17 @@ fn write_guesses<'a>(log: &mut Vec<u8>, mut tool: Tool, inputs: impl Iterator<It
     }
 }
 
-/// What document 01 will give, by the whole tool: its answer but for CarrierOut, and 1 to the rows of requests; no model
-/// 8.
+/// What document 01 will give, by the whole tool: its answer but for CarrierOut, and 1 to the rows of requests; no models
+/// 8 and 9. Who starts to load or unload is whom the port is for, as document 01 doesn't ask.
 fn guess(tool: &mut Tool, sent: &Sent) -> (u8, Vec<Report>) {
     let given = match sent.number {
         row::CARRIER_OUT => return moved(tool, sent),
         number if number > row::LAST_OF_01 => Err(Refusal::OutOfRange),
+        row::LOAD_START | row::UNLOAD_START => {
+            let access =
+                tool.ports().find(|port| u32::from(port.number) == sent.port).map(|port| port.access);
+            tool.step_parts(&Parts { value: access.unwrap_or_default().into(), ..sent.parts() })
+        }
         _ => tool.step_parts(&sent.parts()),
     };
     shown(&given)
@@ -226,6 +232,28 @@ pub mod tests {
         assert_eq!(judge(&log(&many), &mut Tool::none()), Verdict::Agrees { entries: 101 });
     }
 
+    /// Who starts is written as it is sent, and nobody asks: no alarm, no pod that is held, no refusal; at the first try.
+    #[test]
+    fn no_hands_reach_a_log() {
+        let unload = "LoadStart 1 manual\nLoadDone 1\nIdRead 1 A\nCancelCarrier A 1\nUnloadStart 1 manual\n\
+                      UnloadFail 1\nUnloadStart 1 automatic\nUnloadDone 1\n";
+        let script = format!(
+            "setup 1 0\nLoadStart 1 automatic\nLoadFail 1\nin 13 1 255 - -\nLoadFail 1\nChangeAccess 1 1\n{unload}"
+        );
+        let written = log(&script);
+        assert!(written.starts_with(b"CMT\0\x01\x01\0\x0D\x01\x01\0\0\x01\x01\x01\x01\x03"), "{written:?}");
+        assert!(holds(&written, b"\x0D\x01\xFF\0\0\x01\x01\x01\x01\x03"), "{written:?}");
+        assert_eq!(judge(&written, &mut Tool::none()), Verdict::Agrees { entries: 13 });
+        let run = read(script.as_bytes()).unwrap();
+        let mut guessed = entry::head(1, 0);
+        write_guesses(&mut guessed, Tool::setup(1, 0).unwrap(), run.inputs.iter());
+        assert_eq!(guessed, written);
+        let told = "line 2: 'Continue' is no input of document 01, which holds no pod: leave it out, \
+                    or write in 36 .., which is answered 1";
+        assert_eq!(error("setup 1 0\nContinue 1"), told);
+        assert!(log("setup 1 0\nin 36 1 0 - -").ends_with(b"\x24\x01\0\0\x01\0"));
+    }
+
     const STORED: &str =
         "setup 2 2\nLoadStart 1\nLoadDone 1\nIdRead 1 A\nProceedWithCarrier A 0\nMoveIn 1 1\n";
 
@@ -295,6 +323,6 @@ pub mod tests {
             assert_eq!(error(&format!("setup 1 0\n{word}")), told);
         }
         assert_eq!(error("setup 1 0\nLoadStart 256"), "line 2: port 256: a log has one byte for it");
-        assert_eq!(error("setup 1 0\nLoadStart"), "line 2: port missing: expected LoadStart PORT");
+        assert_eq!(error("setup 1 0\nLoadStart"), "line 2: port missing: expected LoadStart PORT [START]");
     }
 }

@@ -8,6 +8,7 @@ mod entry;
 mod explain;
 mod fields;
 mod grounds;
+mod hands;
 mod items;
 mod judge;
 mod log;

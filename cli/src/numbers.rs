@@ -8,6 +8,16 @@ pub mod transfer {
     pub const BLOCKED: u8 = 3;
 }
 
+/// Access mode of a port.
+pub mod access {
+    pub const MANUAL: u8 = 0;
+}
+
+/// Who starts to load or unload.
+pub mod start {
+    pub const AUTOMATIC: u32 = 1;
+}
+
 /// Movement at a port.
 pub mod movement {
     pub const NONE: u8 = 0;
@@ -60,6 +70,10 @@ pub mod request {
 pub mod row {
     pub const CANCEL_CARRIER: u32 = 6;
     pub const CARRIER_OUT: u32 = 7;
+    pub const LOAD_START: u32 = 13;
+    pub const LOAD_DONE: u32 = 14;
+    pub const LOAD_FAIL: u32 = 15;
+    pub const UNLOAD_START: u32 = 24;
     pub const OUT_START: u32 = 27;
     pub const OUT_DONE: u32 = 28;
     pub const CANCEL_ALL_CARRIER_OUT: u32 = 30;
@@ -68,6 +82,7 @@ pub mod row {
     pub const ESTIMATE: u32 = 33;
     pub const NO_PREDICTION: u32 = 34;
     pub const WAFERS: u32 = 35;
+    pub const CONTINUE: u32 = 36;
     /// The last row of document 01.
     pub const LAST_OF_01: u32 = 26;
 }

@@ -94,6 +94,10 @@ pub fn help() -> String {
         ("ACCESS", "0 MANUAL, 1 AUTO"),
         ("SERVICE", "0 out of service, 1 in service"),
         ("END", "0 complete, 1 stopped"),
+        (
+            "START",
+            "who moves the pod: manual, a hand, or automatic, a vehicle; left out, it is manual, as 0 is",
+        ),
         ("CODES", values::CODES),
         ("MAP", "the slot map that the host expects, as CODES, each 1 or 3; may be left out"),
         ("CLOCK", "the time in seconds, never earlier than the last that was accepted"),
@@ -131,8 +135,8 @@ standard input (no FILE, or -).
 judge judges FILE, the log of another maker's tool, by document 01 before any request. Its last line is
 agrees, entry K, the first that disagrees, from 0, or refused N; the status is 0, 1 or 2. Before it stand,
 side by side, what that entry shows and what document 01 gives. log writes such a log of SCRIPT, a set-up
-and document 01's inputs alone, with its answers (CarrierOut moves the carrier at once), to FILE or
-standard output. A file whose name is one of these two words is played as ./judge or after --.
+and document 01's inputs alone, with its answers (CarrierOut moves the carrier at once, and nobody asks
+who starts to load), to FILE or standard output. A file whose name is one of these two words is played as ./judge or after --.
 
 A script has one command on each line, its words apart by spaces or tabs. An empty line, and one that
 begins with #, prints nothing.
@@ -183,6 +187,7 @@ dump prints    port I TRANSFER ACCESS RESERVED TIE MOVEMENT POD TAG
                out NAME PORT STARTED   for each CarrierOut that is queued, the oldest first
                time CLOCK SETTING TIMEOUT   CLOCK is the last that was accepted
                predict NAME STATE TP TE   for each record where B is 0; - for no time
+               alarm PORT ALARM HELD   for each port: its AccessModeViolation alarm, and a pod held there
                end
 waiting prints waiting POSITION READ, or waiting none READ   the place of the first record, from 0,
                whose carrier waits for the host, and how many records were read to know

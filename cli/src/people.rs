@@ -1,7 +1,7 @@
 //! The tool for people: what `state` prints.
 use crate::explain::tool_kind;
 use crate::soundness;
-use hawsermole::{words, Carrier, Port, Prediction, Request, Tool};
+use hawsermole::{words, Carrier, Hands, Port, Prediction, Request, Tool};
 
 /// A line for the tool, for the clock once there is one, for each port, for each carrier and for each CarrierOut that is
 /// queued, the oldest first.
@@ -9,7 +9,7 @@ pub fn state(tool: &Tool) -> String {
     if *tool == Tool::none() {
         return "there is no tool: set one up with setup P B\n".into();
     }
-    let ports: String = tool.ports().map(port).collect();
+    let ports: String = tool.ports().zip(tool.hands()).map(|(of, hands)| port(of, hands)).collect();
     let carriers: String = tool.carriers().map(|of| carrier(tool, of)).collect();
     let carriers = if carriers.is_empty() { "no carriers\n".into() } else { carriers };
     let requests: String = tool.requests().map(|of| format!("CarrierOut of {}\n", request(&of))).collect();
@@ -18,7 +18,8 @@ pub fn state(tool: &Tool) -> String {
     format!("{}\n", tool_kind(tool)) + &fault + &clock + &ports + &carriers + &requests
 }
 
-fn port(port: Port) -> String {
+/// An alarm is told where it is on, and so is a pod that is held.
+fn port(port: Port, hands: Hands) -> String {
     let tie = match port.tie.is_none() {
         true => words::tie(0).into(),
         false => format!("{} with {}", words::tie(1), port.tie),
@@ -35,7 +36,9 @@ fn port(port: Port) -> String {
         words::movement(port.movement).into(),
         pod,
     ];
-    format!("port {}: {}\n", port.number, parts.join(", "))
+    let alarm = if hands.alarm == 0 { "" } else { ", AccessModeViolation alarm on" };
+    let held = if hands.held == 0 { "" } else { ", pod held until Continue or LoadFail" };
+    format!("port {}: {}{alarm}{held}\n", port.number, parts.join(", "))
 }
 
 fn carrier(tool: &Tool, carrier: Carrier) -> String {
@@ -145,8 +148,11 @@ mod tests {
     #[test]
     fn a_carrier_from_port_to_buffer_and_out() {
         let (name, codes) = (b"AB", [3; 25]);
-        let mut inputs =
-            vec![Input::LoadStart { port: 1, start: 0 }, Input::LoadDone { port: 1 }, Input::IdReadFailed { port: 1 }];
+        let mut inputs = vec![
+            Input::LoadStart { port: 1, start: 0 },
+            Input::LoadDone { port: 1 },
+            Input::IdReadFailed { port: 1 },
+        ];
         assert!(after(1, 2, &inputs).contains("idle, pod present, tag failed\n"));
         inputs.push(Input::ProceedWithCarrier { name, port: 1 });
         assert!(after(1, 2, &inputs).contains("carrier AB: at port 1, closed, ID VERIFICATION OK"));
@@ -178,6 +184,17 @@ mod tests {
         let told = state(&tool);
         assert!(told.contains(" s\nclock 1001\nport 1:"), "{told}");
         assert!(told.contains("PREDICTED, ready at 1050, now estimated at 1049, slot map"), "{told}");
+    }
+
+    #[test]
+    fn alarms_and_held_pods() {
+        let auto = Input::ChangeAccess { port: 1, access: 1 };
+        let mut inputs = vec![auto, Input::LoadStart { port: 1, start: 0 }];
+        let loading = "port 1: TRANSFER BLOCKED, AUTO, NOT RESERVED, NOT ASSOCIATED, loading, no pod, \
+                       AccessModeViolation alarm on";
+        assert!(after(1, 0, &inputs).contains(&format!("{loading}\n")));
+        inputs.push(Input::LoadDone { port: 1 });
+        assert!(after(1, 0, &inputs).contains(&format!("{loading}, pod held until Continue or LoadFail\n")));
     }
 
     #[test]

@@ -218,7 +218,7 @@ mod tests {
     #[test]
     fn explanations_stand_below_the_answer() {
         let expected = "setup 0\n  accepted: fixed buffer tool, 1 port\n0 1 [1 1 1 3]\n\
-                        \x20 LoadStart(1): a pod starts to arrive\n  accepted\n\
+                        \x20 LoadStart(1, manual): a pod starts to arrive\n  accepted\n\
                         \x20 port 1: READY TO LOAD to TRANSFER BLOCKED\n";
         assert_eq!(played(true, &["# a comment", "setup 1 0", "in 13 1 0 - -"]), expected);
     }

@@ -1,6 +1,6 @@
 //! The printers: answers, reports and the state in the forms that programs read.
 use hawsermole::{
-    Carrier, Name, Port, Prediction, Refusal, Report, Reports, Request, Subject, Tool, Waiting,
+    Carrier, Hands, Name, Port, Prediction, Refusal, Report, Reports, Request, Subject, Tool, Waiting,
 };
 
 /// What the machine answers to an input.
@@ -57,7 +57,7 @@ pub fn waiting(Waiting { first, read }: Waiting) -> String {
 }
 
 /// The whole state: a line for each port, record, expected map and request of CarrierOut, one for the times, one for each
-/// prediction, `end`. Without a tool there are no times.
+/// prediction, one for each port's alarm, `end`. Without a tool there are no times.
 pub fn dump(tool: &Tool) -> String {
     if *tool == Tool::none() {
         return "end\n".into();
@@ -69,7 +69,12 @@ pub fn dump(tool: &Tool) -> String {
     let requests: String = tool.requests().map(request_line).collect();
     let times = format!("time {} {} {}\n", tool.clock(), tool.setting(), tool.timeout());
     let predictions: String = tool.predictions().map(prediction_line).collect();
-    ports + &records + &maps + &requests + &times + &predictions + "end\n"
+    let alarms: String = tool.hands().map(alarm_line).collect();
+    ports + &records + &maps + &requests + &times + &predictions + &alarms + "end\n"
+}
+
+fn alarm_line(Hands { port, alarm, held }: Hands) -> String {
+    format!("alarm {port} {alarm} {held}\n")
 }
 
 fn prediction_line(Prediction { name: of, state, tp, te }: Prediction) -> String {
@@ -176,7 +181,8 @@ pub mod tests {
     fn answers_without_reports_in_both_forms() {
         let refused = tool(1, 0, &[]).step(&Input::Open { name: b"AB" });
         assert_eq!((numbered(&refused), named(&refused)), ("2 0 []\n".into(), "2  none\n".into()));
-        let accepted = tool(1, 0, &[Input::LoadStart { port: 1, start: 0 }]).step(&Input::LoadDone { port: 1 });
+        let accepted =
+            tool(1, 0, &[Input::LoadStart { port: 1, start: 0 }]).step(&Input::LoadDone { port: 1 });
         assert_eq!((numbered(&accepted), named(&accepted)), ("0 0 []\n".into(), "0  none\n".into()));
     }
 
@@ -193,11 +199,11 @@ pub mod tests {
     #[test]
     fn dumps() {
         assert_eq!(dump(&Tool::none()), "end\n");
-        let empty = "port 1 1 0 0 - 0 0 0\nport 2 1 0 0 - 0 0 0\ntime 0 0 0\nend\n";
+        let empty = "port 1 1 0 0 - 0 0 0\nport 2 1 0 0 - 0 0 0\ntime 0 0 0\nalarm 1 0 0\nalarm 2 0 0\nend\n";
         assert_eq!(dump(&tool(2, 3, &[])), empty);
         let bound = tool(1, 0, &[BIND, Input::LoadStart { port: 1, start: 0 }]);
         let expected = "port 1 3 0 0 4142 1 0 0\nrec 4142 0 0 1 0 0 0 - 1 1 1\n\
-                        time 0 0 0\npredict 4142 2 - -\nend\n";
+                        time 0 0 0\npredict 4142 2 - -\nalarm 1 0 0\nend\n";
         assert_eq!(dump(&bound), expected);
     }
 
@@ -219,7 +225,8 @@ pub mod tests {
             tool.step(&input).unwrap();
         }
         let map = "03".repeat(24) + "05";
-        let expected = format!("port 1 1 1 0 - 0 0 0\nrec 4142 2 9 0 1 0 0 {map} 3 2 1\ntime 0 0 0\nend\n");
+        let expected =
+            format!("port 1 1 1 0 - 0 0 0\nrec 4142 2 9 0 1 0 0 {map} 3 2 1\ntime 0 0 0\nalarm 1 0 0\nend\n");
         assert_eq!(dump(&tool), expected);
     }
 
@@ -235,7 +242,7 @@ pub mod tests {
         ];
         let records = "rec 42 0 0 0 0 0 0 - 1 1 1\nrec 43 0 0 0 0 0 0 - 1 1 1\nrec 41 0 0 1 0 0 0 - 1 1 1\n";
         let maps = format!("map 42 {}\nmap 41 {}\n", "01".repeat(25), "03".repeat(25));
-        let expected = format!("port 1 1 0 1 41 0 0 0\n{records}{maps}time 0 0 0\nend\n");
+        let expected = format!("port 1 1 0 1 41 0 0 0\n{records}{maps}time 0 0 0\nalarm 1 0 0\nend\n");
         assert_eq!(dump(&tool(1, 1, &inputs)), expected);
     }
 
@@ -252,7 +259,8 @@ pub mod tests {
         ] {
             tool.step(&input).unwrap();
         }
-        let end = format!("map 44 {}\nout 43 1 0\nout 41 2 1\ntime 0 0 0\nend\n", "03".repeat(25));
+        let alarms = "alarm 1 0 0\nalarm 2 0 0\n";
+        let end = format!("map 44 {}\nout 43 1 0\nout 41 2 1\ntime 0 0 0\n{alarms}end\n", "03".repeat(25));
         assert!(dump(&tool).ends_with(&end), "{}", dump(&tool));
     }
 
@@ -267,16 +275,27 @@ pub mod tests {
         ] {
             tool.step(&input).unwrap();
         }
-        let end = "time 4294967295 60 86400\npredict 41 5 0 7\npredict 42 2 - -\nend\n";
+        let end =
+            "time 4294967295 60 86400\npredict 41 5 0 7\npredict 42 2 - -\nalarm 1 0 0\nalarm 2 0 0\nend\n";
         assert!(dump(&tool).ends_with(end), "{}", dump(&tool));
         let mut buffer = Tool::setup_with_times(1, 1, 3, 4).unwrap();
         buffer.step(&Input::CarrierNotification { name: b"B" }).unwrap();
         buffer.step(&Input::Clock { clock: 9 }).unwrap();
         assert!(
-            dump(&buffer).ends_with("rec 42 0 0 0 0 0 0 - 1 1 1\ntime 9 3 4\nend\n"),
+            dump(&buffer).ends_with("rec 42 0 0 0 0 0 0 - 1 1 1\ntime 9 3 4\nalarm 1 0 0\nend\n"),
             "{}",
             dump(&buffer)
         );
+    }
+
+    /// By port, after the predictions.
+    #[test]
+    fn dumps_of_alarms() {
+        let auto = [1, 2, 3].map(|port| Input::ChangeAccess { port, access: 1 });
+        let loads = [2, 3].map(|port| Input::LoadStart { port, start: 0 });
+        let inputs = [&auto[..], &loads, &[Input::LoadDone { port: 3 }]].concat();
+        let told = dump(&tool(3, 0, &inputs));
+        assert!(told.ends_with("time 0 0 0\nalarm 1 0 0\nalarm 2 1 0\nalarm 3 1 1\nend\n"), "{told}");
     }
 
     #[test]

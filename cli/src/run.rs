@@ -168,7 +168,7 @@ mod tests {
         let (output, errors, result) = played_so(script, keep_going);
         assert_eq!((output.as_str(), result), ("setup 0\n0  1 1 1>3\n", Ok(End::Unreadable)));
         let told: Vec<&str> = errors.lines().collect();
-        assert_eq!(told[0], "hawsermole: line 2: port missing: expected LoadStart PORT");
+        assert_eq!(told[0], "hawsermole: line 2: port missing: expected LoadStart PORT [START]");
         assert!(told[1].starts_with("hawsermole: line 3: /no/where: ") && told.len() == 2, "{errors}");
         assert_eq!(played_so(b"setup 1 0\n", keep_going).2, Ok(End::Well));
     }

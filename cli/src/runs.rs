@@ -80,7 +80,7 @@ pub fn inputs(ports: u32, places: u32, names: &[&[u8]], odd: bool) -> Vec<Sent> 
                     numbers(0..=ports + beyond, |sent, port| sent.port = port)
                 }
                 Argument::Place => numbers(0..=places + beyond, |sent, value| sent.value = value),
-                Argument::Access | Argument::Service | Argument::End => {
+                Argument::Access | Argument::Service | Argument::End | Argument::Start => {
                     numbers(0..=1 + beyond, |sent, value| sent.value = value)
                 }
                 Argument::Clock => numbers(CLOCKS, |sent, clock| sent.clock = clock),
@@ -128,30 +128,36 @@ const QUEUE: usize = 2791;
 /// Where the clock stands, and the first prediction.
 const CLOCK: usize = 3080;
 const PREDICTIONS: usize = 3092;
+/// Where the ports' alarms stand, two bytes each.
+const HANDS: usize = 3488;
 
-/// The bytes of a tool that its ports, its times, its first few records with their predictions and its first few
-/// requests use.
+/// The bytes of a tool that its ports with their alarms, its times, its first few records with their predictions and its
+/// first few requests use.
 fn key(tool: &Tool) -> Vec<u8> {
     let bytes = tool.as_bytes();
     let requests = [&bytes[1891..1966], &bytes[QUEUE..QUEUE + 55], &bytes[CLOCK..PREDICTIONS + 33]].concat();
-    [&bytes[..91], tool.records().concat().as_slice(), &requests].concat()
+    [&bytes[..91], &bytes[HANDS..HANDS + 8], tool.records().concat().as_slice(), &requests].concat()
 }
 
 /// Rows that take back, turn away or let go: drawn less often, so that a run fills its tool.
 const BACKWARD: [u32; 10] = [2, 4, 6, 10, 12, 15, 24, 26, 29, 30];
 
 /// The states of one long run. Its clock goes on, and the times of its inputs with it; in a tool with a buffer, which
-/// predicts nothing, it is the clock alone. Wafers lead where a predicted time does, and are left out.
+/// predicts nothing, it is the clock alone. Wafers lead where a predicted time does, and are left out. Three of four pods
+/// are moved by whom their port is for.
 pub fn long_run(ports: u32, places: u32, inputs: &[Sent], steps: usize, dice: &mut Dice) -> Vec<Tool> {
     let mut tool = set_up(ports, places);
     let mut states = Vec::new();
     let last = if places == 0 { row::NO_PREDICTION } else { row::CLOCK };
-    let does = |sent: &&Sent| sent.number <= last;
+    let does = |sent: &&Sent| sent.number <= last || sent.number == row::CONTINUE;
     let inputs: Vec<&Sent> = inputs.iter().filter(does).collect();
     for step in 0..steps {
         let mut sent = (*dice.one(&inputs)).clone();
         let day = step as u32 / 50 * 5;
         (sent.clock, sent.time) = (sent.clock + day, sent.time + day);
+        if [row::LOAD_START, row::UNLOAD_START].contains(&sent.number) && dice.below(4) > 0 {
+            sent.value = whom_it_is_for(&tool, sent.port);
+        }
         let drawn = !BACKWARD.contains(&sent.number) || dice.below(8) == 0;
         if drawn && tool.step_parts(&sent.parts()).is_ok() {
             states.push(tool.clone());
@@ -160,17 +166,23 @@ pub fn long_run(ports: u32, places: u32, inputs: &[Sent], steps: usize, dice: &m
     states
 }
 
+/// Who starts at a port without an alarm.
+fn whom_it_is_for(tool: &Tool, port: u32) -> u32 {
+    tool.ports().find(|own| u32::from(own.number) == port).map_or(0, |own| own.access.into())
+}
+
 /// The tool with some of its bytes changed: any, or fields in their ranges, so that it may be sound and odd.
 pub fn damaged(tool: &Tool, dice: &mut Dice) -> Tool {
     let mut bytes = *tool.as_bytes();
     for _ in 0..1 + dice.below(3) {
-        match dice.below(7) {
+        match dice.below(9) {
             0 => bytes[dice.below(TOOL_BYTES)] = dice.below(256) as u8,
             1 => bytes[1891 + dice.below(75)] = dice.below(5) as u8,
             2 => change_port(&mut bytes, 3 + 22 * dice.below(tool.ports().len()), dice),
-            3 if tool.requests().len() > 0 => change_request(&mut bytes, tool, dice),
-            3 | 4 => add_request(&mut bytes, tool, dice),
+            3 | 7 if tool.requests().len() > 0 => change_request(&mut bytes, tool, dice),
+            3 | 4 | 7 => add_request(&mut bytes, tool, dice),
             5 => change_prediction(&mut bytes, tool, dice),
+            6 => bytes[HANDS + dice.below(2 * tool.ports().len() + 2).min(7)] = dice.below(3) as u8,
             _ if tool.records().is_empty() => bytes[91 + dice.below(50)] = 1,
             _ => change_record(&mut bytes, tool, dice),
         }

@@ -168,6 +168,9 @@ fn read_reply(mut words: Words) -> Result<Command, String> {
     Ok(Command::Reply { number, room })
 }
 
+/// Who starts where a line doesn't say it: what 0 is, too.
+const MANUAL: &[u8] = b"manual";
+
 fn read_named(first: &[u8], mut words: Words) -> Result<Command, String> {
     let row = ROWS.iter().find(|row| row.name.as_bytes() == first).ok_or_else(|| unknown(first))?;
     let usage = usage(row);
@@ -177,6 +180,7 @@ fn read_named(first: &[u8], mut words: Words) -> Result<Command, String> {
         let word = match (argument, words.next()) {
             (_, Some(word)) => word,
             (Argument::MapOrNone | Argument::Wafers, None) => NONE,
+            (Argument::Start, None) => MANUAL,
             (_, None) => return Err(values::missing(what, &usage)),
         };
         match argument {
@@ -186,6 +190,7 @@ fn read_named(first: &[u8], mut words: Words) -> Result<Command, String> {
             Argument::Access | Argument::Service | Argument::Place | Argument::End => {
                 sent.value = values::number(what, word)?
             }
+            Argument::Start => sent.value = values::start(what, word)?,
             Argument::Clock => sent.clock = values::number(what, word)?,
             Argument::Tp | Argument::Te => sent.time = values::number(what, word)?,
             Argument::Wafers => sent.wafers = read_wafers(word, &mut words)?,
@@ -203,13 +208,14 @@ fn read_wafers<'a>(first: &'a [u8], words: &mut Words<'a>) -> Result<Vec<Wafer>,
     }
 }
 
-/// How a named input is written: `MoveIn PORT PLACE`, `Bind PORT NAME [MAP]`, `Wafers CLOCK NAME [WAFER..]`.
+/// How a named input is written: `MoveIn PORT PLACE`, `Bind PORT NAME [MAP]`, `LoadStart PORT [START]`,
+/// `Wafers CLOCK NAME [WAFER..]`.
 pub fn usage(row: &Row) -> String {
     let mut usage = String::from(row.name);
     for argument in row.arguments {
         let word = argument.name().to_uppercase();
         usage += &match argument {
-            Argument::MapOrNone => format!(" [{word}]"),
+            Argument::MapOrNone | Argument::Start => format!(" [{word}]"),
             Argument::Wafers => " [WAFER..]".into(),
             _ => format!(" {word}"),
         };
@@ -309,6 +315,9 @@ mod tests {
         assert_eq!(named("ReserveAtPort 1"), sent(11, 1, 0, b"", b""));
         assert_eq!(named("CancelReservationAtPort 1"), sent(12, 1, 0, b"", b""));
         assert_eq!(named("LoadStart 1"), sent(13, 1, 0, b"", b""));
+        assert_eq!(named("LoadStart 1 manual"), sent(13, 1, 0, b"", b""));
+        assert_eq!(named("LoadStart 1 automatic"), sent(13, 1, 1, b"", b""));
+        assert_eq!(named("LoadStart 1 2"), sent(13, 1, 2, b"", b""));
         assert_eq!(named("LoadDone 1"), sent(14, 1, 0, b"", b""));
         assert_eq!(named("LoadFail 1"), sent(15, 1, 0, b"", b""));
         assert_eq!(named("IdRead 1 AB"), sent(16, 1, 0, b"AB", b""));
@@ -320,6 +329,7 @@ mod tests {
         assert_eq!(named("AccessEnd AB 1"), sent(22, 0, 1, b"AB", b""));
         assert_eq!(named("Close AB"), sent(23, 0, 0, b"AB", b""));
         assert_eq!(named("UnloadStart 1"), sent(24, 1, 0, b"", b""));
+        assert_eq!(named("UnloadStart 1 automatic"), sent(24, 1, 1, b"", b""));
         assert_eq!(named("UnloadDone 1"), sent(25, 1, 0, b"", b""));
         assert_eq!(named("UnloadFail 1"), sent(26, 1, 0, b"", b""));
         assert_eq!(named("OutStart 1"), sent(27, 1, 0, b"", b""));
@@ -332,6 +342,7 @@ mod tests {
         assert_eq!(named("NoPrediction 9 AB"), timed(34, 9, b"AB", 0));
         assert_eq!(named("Wafers 9 AB"), timed(35, 9, b"AB", 0));
         assert_eq!(named("Wafers 9 AB -"), timed(35, 9, b"AB", 0));
+        assert_eq!(named("Continue 1"), sent(36, 1, 0, b"", b""));
         let wafers = vec![Wafer { process: 90.5, handling: 12.25 }, Wafer { process: 0.0, handling: -1.0 }];
         assert_eq!(named("Wafers 9 AB 90.5+12.25 0+-1"), Sent { wafers, ..timed(35, 9, b"AB", 0) });
     }
@@ -371,6 +382,8 @@ mod tests {
         );
         assert_eq!(error("Clock"), "clock missing: expected Clock CLOCK");
         assert_eq!(error("PredictedTime 9 AB"), "tp missing: expected PredictedTime CLOCK NAME TP");
+        assert_eq!(error("LoadStart"), "port missing: expected LoadStart PORT [START]");
+        assert_eq!(error("Continue"), "port missing: expected Continue PORT");
         assert_eq!(error("Wafers 9"), "name missing: expected Wafers CLOCK NAME [WAFER..]");
     }
 
@@ -379,6 +392,11 @@ mod tests {
         assert_eq!(error("CancelAllCarrierOut 1"), "'1' is one word too many: expected CancelAllCarrierOut");
         assert_eq!(error("Open AB # now"), "'#' is one word too many: expected Open NAME");
         assert_eq!(error("Bind 1 AB - -"), "'-' is one word too many: expected Bind PORT NAME [MAP]");
+        assert_eq!(
+            error("LoadStart 1 manual 1"),
+            "'1' is one word too many: expected LoadStart PORT [START]"
+        );
+        assert_eq!(error("Continue 1 1"), "'1' is one word too many: expected Continue PORT");
         assert_eq!(error("secs 01 00"), "'00' is one word too many: expected secs HEX");
         assert_eq!(error("exchange 01 9 9"), "'9' is one word too many: expected exchange HEX ROOM");
         assert_eq!(error("reply 1 9 9"), "'9' is one word too many: expected reply NUMBER ROOM");
@@ -406,6 +424,8 @@ mod tests {
         assert_eq!(error("Clock 4294967296"), "clock: '4294967296' is not a number from 0 to 4294967295");
         assert_eq!(error("Estimate 9 AB -1"), "te: '-1' is not a number from 0 to 4294967295");
         assert_eq!(error("ChangeAccess 1 AUTO"), "access: 'AUTO' is not a number from 0 to 4294967295");
+        let start = "is not manual or automatic, or a number from 0 to 4294967295";
+        assert_eq!(error("UnloadStart 1 AUTO"), format!("start: 'AUTO' {start}"));
         assert_eq!(error("in 1 1 0 AB1 -"), "name: 'AB1' is not pairs of hex digits, or - for none");
         assert_eq!(error("secs 010"), "message: '010' is not pairs of hex digits, or - for none");
         assert_eq!(error("reply -1 9"), "number: '-1' is not a number from 0 to 4294967295");

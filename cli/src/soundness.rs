@@ -1,14 +1,15 @@
-//! Why a tool isn't sound: the first clause of document 01's list and the requests' P5 and P7 that doesn't hold, and
+//! Why a tool isn't sound: the first clause of document 01's list and the requests' P5, P7 and P9 that doesn't hold, and
 //! where it doesn't. Whether a tool is sound is the archive's to say.
 use crate::fields::{out_of_range, unused};
 use crate::numbers::{movement, place, transfer, MOST_EXPECTED};
 use hawsermole::{words, Carrier, Port, Tool};
 use std::fmt;
 
+mod hands;
 mod predictions;
 mod queue;
 
-/// A clause of document 01's list, in its order, and then of requests P5's and P7's.
+/// A clause of document 01's list, in its order, and then of requests P5's, P7's and P9's.
 #[derive(Clone, Copy, Debug, PartialEq, Eq)]
 pub enum Clause {
     InRange,
@@ -27,6 +28,8 @@ pub enum Clause {
     PortKept,
     PredictedAtPort,
     ReadyCompleted,
+    HeldLoading,
+    AlarmCleared,
 }
 
 impl Clause {
@@ -54,6 +57,8 @@ impl Clause {
             }
             Clause::PredictedAtPort => "only a carrier at a port has left WAITING FOR CARRIER",
             Clause::ReadyCompleted => "none is PREDICTED or ABORTED with its port READY TO UNLOAD",
+            Clause::HeldLoading => "a held port is loading with its alarm on",
+            Clause::AlarmCleared => "no alarm is on at READY TO LOAD",
         }
     }
 }
@@ -76,7 +81,7 @@ impl fmt::Display for Fault {
 type Test = fn(&Tool) -> Option<String>;
 
 /// Each looks at what the ones before it have let through.
-const CLAUSES: [(Clause, Test); 16] = [
+const CLAUSES: [(Clause, Test); 18] = [
     (Clause::InRange, out_of_range),
     (Clause::UnusedZero, unused),
     (Clause::NamesDiffer, same_names),
@@ -93,6 +98,8 @@ const CLAUSES: [(Clause, Test); 16] = [
     (Clause::PortKept, queue::not_kept),
     (Clause::PredictedAtPort, predictions::left_too_early),
     (Clause::ReadyCompleted, predictions::not_completed),
+    (Clause::HeldLoading, hands::held_otherwise),
+    (Clause::AlarmCleared, hands::on_when_ready),
 ];
 
 /// The first clause that doesn't hold; none of a sound tool.
@@ -197,7 +204,7 @@ mod tests {
             let inputs = inputs(ports, places, &[b"A", b"B", b"C", b"DD"], false);
             for tool in long_run(ports, places, &inputs, 3000, &mut dice) {
                 assert_eq!(judged(&tool), None);
-                for _ in 0..20 {
+                for _ in 0..40 {
                     let clause = judged(&damaged(&tool, &mut dice));
                     met[clause.map_or(CLAUSES.len(), |clause| clause as usize)] += 1;
                 }
@@ -380,7 +387,7 @@ mod tests {
         let buffer = stored(1, &[A]);
         let none = format!("{unused} (byte 3092 is 2, and part of no record's prediction)");
         assert_eq!(at(&buffer, &[(3092, 2)]), none);
-        assert_eq!(at(&predicted(), &[(3488, 1)]), format!("{unused} (byte 3488 is 1, and part of nothing)"));
+        assert_eq!(at(&predicted(), &[(3496, 1)]), format!("{unused} (byte 3496 is 1, and part of nothing)"));
         let early = "not so: only a carrier at a port has left WAITING FOR CARRIER \
                      (the prediction of B is PREDICTION COMPLETED, and it is expected)";
         assert_eq!(at(&predicted(), &[(3103, 6)]), early);
@@ -392,6 +399,34 @@ mod tests {
         assert!(
             at(&times, &[(110, 0), (3, 2), (3092, 5)]).contains("the prediction of A is PREDICTION ABORTED")
         );
+    }
+
+    #[test]
+    fn alarms_and_held_pods_that_disagree_are_named() {
+        let auto = Input::ChangeAccess { port: 1, access: 1 };
+        let loading = tool(2, 0, &[auto, START]);
+        let range = "not so: every field is in its range";
+        assert_eq!(
+            told(&loading, &[(3488, 2)]),
+            format!("{range} (port 1: alarm 2, not 0 to 1 (byte 3488))")
+        );
+        assert_eq!(told(&loading, &[(3491, 9)]), format!("{range} (port 2: held 9, not 0 to 1 (byte 3491))"));
+        let unused = "not so: unused bytes and records are zero";
+        assert_eq!(
+            told(&loading, &[(3492, 1)]),
+            format!("{unused} (byte 3492 is 1, and part of no port's alarm)")
+        );
+        let held = "not so: a held port is loading with its alarm on";
+        let off = "port 1 is TRANSFER BLOCKED, loading, with its alarm off and a pod held";
+        assert_eq!(told(&loading, &[(3488, 0), (3489, 1)]), format!("{held} ({off})"));
+        let idle = "port 2 is READY TO LOAD, idle, with its alarm on and a pod held";
+        assert_eq!(told(&loading, &[(3490, 1), (3491, 1)]), format!("{held} ({idle})"));
+        let ready = "not so: no alarm is on at READY TO LOAD (that of port 2 is)";
+        assert_eq!(told(&loading, &[(3490, 1)]), ready);
+        // on in MANUAL and OUT OF SERVICE it is sound
+        let mut bytes = *loading.as_bytes();
+        (bytes[4], bytes[25], bytes[3490]) = (0, 0, 1);
+        assert_eq!(judged(&Tool::from_bytes(&bytes)), None);
     }
 
     #[test]

@@ -6,6 +6,7 @@ use crate::numbers::{accessing, movement, place, status, tag, transfer, MOST_EXP
 use crate::people;
 use hawsermole::{words, Carrier, Name, Parts, Port, Tool};
 
+mod hands;
 mod predictions;
 mod queue;
 
@@ -46,7 +47,7 @@ impl<'a> Standing<'a> {
     }
 
     /// The carrier that the given port is tied to.
-    fn held(&self) -> Option<Carrier> {
+    fn tied_here(&self) -> Option<Carrier> {
         let port = self.here?.number;
         self.tool.carriers().find(|carrier| carrier.port == port)
     }
@@ -90,7 +91,7 @@ impl Standing<'_> {
     }
 
     pub fn tied(&self) -> Option<Ground> {
-        let carrier = self.held()?;
+        let carrier = self.tied_here()?;
         ground(true, Cause::Tied, format!("port {}, and {}", self.port().number, stands(&carrier)))
     }
 
@@ -119,8 +120,10 @@ impl Standing<'_> {
         ground(self.port().movement != movement::UNLOADING, Cause::NotUnloading, told(&self.port()))
     }
 
+    /// Of a pod that is held it is told so.
     fn pod(&self) -> Option<Ground> {
-        ground(self.port().pod == 0, Cause::NoPod, format!("port {}", self.port().number))
+        let none = || ground(self.port().pod == 0, Cause::NoPod, format!("port {}", self.port().number));
+        self.held_already().or_else(none)
     }
 
     /// Pod present, idle, tag unread.
@@ -215,7 +218,7 @@ impl Standing<'_> {
             let other = if carrier.port == 0 { None } else { self.other_port(carrier) };
             [self.expected(carrier), unbound, other, home].into()
         };
-        match (self.name, self.held()) {
+        match (self.name, self.tied_here()) {
             (Some(_), _) => self.with_record(pair),
             (None, Some(carrier)) => pair(&carrier),
             (None, None) => {
@@ -291,7 +294,7 @@ impl Standing<'_> {
     fn verified_here(&self) -> Option<Ground> {
         let port = self.port();
         let number = format!("port {}", port.number);
-        match self.held().filter(|carrier| carrier.place == place::PORT) {
+        match self.tied_here().filter(|carrier| carrier.place == place::PORT) {
             Some(carrier) => id_ok(&carrier),
             None => match port.tag {
                 tag::UNREAD => ground(true, Cause::TagUnread, number),

@@ -1,4 +1,5 @@
-//! Words of a line and what they stand for: numbers, names, codes, wafers. Nothing is cut and nothing is guessed.
+//! Words of a line and what they stand for: numbers, who starts, names, codes, wafers. Nothing is cut and nothing is guessed.
+use hawsermole::states::Start;
 use hawsermole::Wafer;
 
 const NUMBER: &str = "a number from 0 to 4294967295";
@@ -9,6 +10,9 @@ const HEX: &str = "pairs of hex digits, or - for none";
 pub const NONE: &[u8] = b"-";
 /// What the codes of a slot map may be written as.
 pub const CODES: &str = "25 digits, one for each slot, or pairs of hex digits, or - for none";
+
+/// What who starts may be written as.
+pub const START: &str = "manual or automatic, or a number from 0 to 4294967295";
 
 const WHOLE_WAFERS: &str = "whole wafers of 32 hex digits each, or - for none";
 /// What a wafer is written as.
@@ -89,6 +93,15 @@ pub fn number(what: &str, word: &[u8]) -> Result<u32, String> {
     let digits = word.iter().all(u8::is_ascii_digit).then_some(word);
     let text = digits.and_then(|digits| std::str::from_utf8(digits).ok());
     text.and_then(|text| text.parse().ok()).ok_or_else(|| wrong(what, word, NUMBER))
+}
+
+/// Who starts, by the word or the number.
+pub fn start(what: &str, word: &[u8]) -> Result<u32, String> {
+    let named = Start::ALL.iter().find(|start| start.word().as_bytes() == word);
+    match named {
+        Some(start) => Ok(start.number().into()),
+        None => number(what, word).map_err(|_| wrong(what, word, START)),
+    }
 }
 
 /// How many bytes of room to lend.
@@ -206,6 +219,18 @@ mod tests {
             assert_eq!(number("n", odd.as_bytes()), Err(message));
         }
         assert_eq!(number("n", b"\xff"), Err("n: '\\xff' is not a number from 0 to 4294967295".into()));
+    }
+
+    #[test]
+    fn who_starts_is_a_word_or_a_number() {
+        let read = |word: &str| start("start", word.as_bytes());
+        assert_eq!((read("manual"), read("automatic")), (Ok(0), Ok(1)));
+        assert_eq!((read("0"), read("1"), read("4294967295")), (Ok(0), Ok(1), Ok(u32::MAX)));
+        for odd in ["Manual", "auto", "AUTO", "hand", "-", "4294967296", ""] {
+            let message =
+                format!("start: '{odd}' is not manual or automatic, or a number from 0 to 4294967295");
+            assert_eq!(read(odd), Err(message));
+        }
     }
 
     #[test]

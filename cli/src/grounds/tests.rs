@@ -97,12 +97,12 @@ fn holds_of_parts(cause: Cause, at: &Seen) -> bool {
     match cause {
         Cause::NoTool => at.ports == 0 && !at.tool.is_sound(),
         Cause::NotSound => at.ports != 0 && !at.tool.is_sound(),
-        Cause::NoInput => !(1..=35).contains(number),
+        Cause::NoInput => !(1..=36).contains(number),
         Cause::Port => *port > at.ports || (*port == 0 && ![2, 5, 6].contains(number)),
         Cause::NothingGiven => *number == 2 && *port == 0 && name.is_empty(),
         Cause::NoBuffer => *number == 18 && at.places == 0,
         Cause::Place => *number == 18 && at.places > 0 && (*value == 0 || *value > at.places),
-        Cause::Value => [9, 10, 22].contains(number) && *value > 1,
+        Cause::Value => [9, 10, 13, 22, 24].contains(number) && *value > 1,
         Cause::NoName => *number != 2 && name.is_empty(),
         Cause::Name => !name.is_empty() && !is_name(name),
         Cause::SlotMap => *number == 20 && (codes.len() != 25 || codes.iter().any(|&code| code > 5)),
@@ -238,6 +238,17 @@ fn holds_of_prediction(cause: Cause, at: &Seen) -> bool {
     }
 }
 
+/// Whether a cause that speaks of hands on an AUTO port is so, by the bytes of the tool.
+fn holds_of_hands(cause: Cause, at: &Seen) -> bool {
+    let held = at.here.is_some_and(|q| at.tool.as_bytes()[3487 + 2 * usize::from(q.number)] == 1);
+    match cause {
+        Cause::PodHeld => held,
+        Cause::NothingHeld => !held && at.parts.number == 36,
+        Cause::ForHands => at.port(|q| q.access == 0) && at.parts.value == 1,
+        _ => false,
+    }
+}
+
 /// Whether a cause of 12 is so, by whole numbers of parts.
 fn holds_of_wafers(cause: Cause, at: &Seen) -> bool {
     let times = at.parts.wafers.iter().flat_map(|wafer| [wafer.process, wafer.handling]);
@@ -254,7 +265,8 @@ fn holds_of_wafers(cause: Cause, at: &Seen) -> bool {
 }
 
 fn holds(cause: Cause, at: &Seen) -> bool {
-    let of_state = [holds_of_port, holds_of_carrier, holds_of_pod, holds_of_queue, holds_of_prediction];
+    let of_state =
+        [holds_of_port, holds_of_carrier, holds_of_pod, holds_of_queue, holds_of_prediction, holds_of_hands];
     [holds_of_parts, holds_of_names, holds_of_wafers].iter().chain(&of_state).any(|of| of(cause, at))
 }
 
@@ -405,7 +417,7 @@ fn numbers_without_a_row_and_tools_that_are_none() {
     let tool = Tool::setup(1, 0).unwrap();
     let mut bytes = *tool.as_bytes();
     bytes[3] = 7;
-    for number in [0, 1, 13, 36, 257, u32::MAX] {
+    for number in [0, 1, 13, 37, 257, u32::MAX] {
         let sent = Sent { number, port: 1, name: b"A".to_vec(), ..Sent::default() };
         met.agree_on(&[tool.clone(), Tool::none(), Tool::from_bytes(&bytes)], &[sent]);
     }
