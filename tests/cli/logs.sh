@@ -43,6 +43,28 @@ written() {
     done
 }
 
+# In AUTO and MANUAL, by hand and by a vehicle: document 01 doesn't ask who starts, so that all loads are the same there.
+hands_in_logs() {
+    for access in 0 1; do
+        for start in manual automatic; do
+            printf 'setup 1 0\nChangeAccess 1 %s\nLoadStart 1 %s\nLoadDone 1\nIdReadFailed 1\n' "$access" "$start"
+        done >"$work/starts"
+        head -n 5 "$work/starts" >"$work/by_hand"
+        tail -n 5 "$work/starts" >"$work/by_vehicle"
+        for script in by_hand by_vehicle; do
+            hawsermole log "$work/$script" "$work/$script.log" >"$work/printed"
+            hawsermole judge "$work/$script.log" | tail -n 1
+        done >"$work/out"
+        cmp "$work/by_hand.log" "$work/by_vehicle.log" >"$work/differ"
+        sed 's/.*: byte \([0-9]*\),.*/byte \1/' "$work/differ" >>"$work/out"
+        # the second number of LoadStart alone differs, after the head and ChangeAccess with its report, if it has one
+        printf 'agrees\nagrees\nbyte %s\n' "$((16 + 4 * access))" | want 0
+        : >"$work/err"
+        echo 0 >"$work/status"
+        outcome "logs of loads at a port whose access mode is $access"
+    done
+}
+
 # unusable_log WORDS.. TITLE is in `title`: a file that can't be read or written is told.
 unusable_log() {
     want 2 "hawsermole: $1: REASON" </dev/null
@@ -70,6 +92,10 @@ wrong_logs() {
 leave it out, or write in 27 .., which is answered 1" </dev/null
     printf 'setup 1 1\nOutStart 1\n' | play log - "$work/none.log"
     outcome "log of an input that document 01 hasn't"
+    want 2 "hawsermole: line 2: 'Continue' is no input of document 01, which holds no pod: leave it out, or write \
+in 36 .., which is answered 1" </dev/null
+    printf 'setup 1 0\nContinue 1\n' | play log - "$work/none.log"
+    outcome "log of a Continue, which document 01 hasn't"
     printf 'the file ends at byte 0, inside its head of 7\nrefused 29\n' | want 2
     play judge /dev/null </dev/null
     outcome "judge of an empty file"
@@ -105,6 +131,7 @@ damaged_logs() {
 logs() {
     judged_examples
     written
+    hands_in_logs
     wrong_logs
     damaged_logs
 }

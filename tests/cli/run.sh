@@ -129,7 +129,7 @@ unreadable() {
         printf 'setup 1 0\n%s\nsetup 1 0\n' "$line" | play
         outcome "unreadable: $line"
     done <"$here/unreadable.txt"
-    echo 'setup 0' | want 2 "hawsermole: line 5: port missing: expected LoadStart PORT"
+    echo 'setup 0' | want 2 "hawsermole: line 5: port missing: expected LoadStart PORT [START]"
     printf '\n# blank lines and comments count\nsetup 1 0\n\nLoadStart' | play
     outcome "the number of the line"
 }
@@ -170,14 +170,14 @@ prints() {
 
 # A slip is told, and the tool stays: with --keep-going, and at a terminal, where `script` is one.
 slips() {
-    printf 'setup 0\n0  1 1 1>3\n' | want 2 "hawsermole: line 2: port missing: expected LoadStart PORT" \
+    printf 'setup 0\n0  1 1 1>3\n' | want 2 "hawsermole: line 2: port missing: expected LoadStart PORT [START]" \
         "hawsermole: line 3: unknown word 'loadstart': it is written LoadStart"
     printf 'setup 1 0\nLoadStart\nloadstart 1\nLoadStart 1\n' >"$work/slips"
     play --keep-going "$work/slips" </dev/null
     outcome "slips with --keep-going"
     play --keep-going <"$work/slips"
     outcome "slips on standard input with --keep-going"
-    printf 'setup 0\n' | want 2 "hawsermole: line 2: port missing: expected LoadStart PORT"
+    printf 'setup 0\n' | want 2 "hawsermole: line 2: port missing: expected LoadStart PORT [START]"
     play <"$work/slips"
     outcome "a slip without"
     { cat "$work/slips"; printf '\004'; } | script -qec "sh '$work/hawsermole'" /dev/null >"$work/terminal" 2>&1
@@ -223,8 +223,10 @@ queues() {
     { cat "$work/printed"; echo 'save 3782'; } | want 0
     { cat "$work/stored"; echo "save $saved"; } | play
     outcome "save of a queue"
-    printf 'load sound\n0  3 1 0>1\nport 1 1 0 1 - 0 0 0\nrec 41 2 1 0 0 0 0 - 3 1 1\nout 41 1 1\ntime 0 0 0\nend\n' |
-        want 0
+    {
+        printf 'load sound\n0  3 1 0>1\nport 1 1 0 1 - 0 0 0\nrec 41 2 1 0 0 0 0 - 3 1 1\n'
+        printf 'out 41 1 1\ntime 0 0 0\nalarm 1 0 0\nend\n'
+    } | want 0
     {
         echo "load $saved"
         printf 'OutStart 1\nexpect 0 3 1 0>1\ndump\nexpect port 1 ..\nexpect rec ..\nexpect out 41 1 1\n'
@@ -272,6 +274,25 @@ wafers() {
     printf 'same\nsame\nsame\n' | want 0
     cp "$work/same" "$work/out"
     outcome "wafers and the time that they come to"
+}
+
+# A held pod is saved and loaded as well, and waits for Continue; one that is held without its alarm isn't sound.
+hands() {
+    saved=$work/held
+    printf 'setup 0\n0  2 1 0>1\n0  1 1 1>3; 9 1 0>1\n0  none\nsave 3782\n' | want 0
+    { printf 'setup 1 0\nChangeAccess 1 1\nLoadStart 1 manual\nLoadDone 1\n'; echo "save $saved"; } | play
+    outcome "save of a held pod"
+    printf 'load sound\n5  none\n0  9 1 1>0\nundo Continue 1\n0  1 1 3>1; 9 1 1>0\n' | want 0
+    {
+        echo "load $saved"
+        printf 'LoadDone 1\nexpect 5 none\nContinue 1\nexpect 0 9 1 1>0\nundo\nLoadFail 1\nexpect 0 1 1 3>1; 9 1 1>0\n'
+    } | play --check
+    outcome "load of a held pod, with what is expected"
+    { head -c 3488 "$saved"; printf '\000'; tail -c +3490 "$saved"; } >"$work/damaged"
+    held='a held port is loading with its alarm on (port 1 is TRANSFER BLOCKED, loading, with its alarm off and a pod held)'
+    printf 'load unsound, not so: %s\n1  none\n' "$held" | want 0
+    { echo "load $work/damaged"; echo 'Continue 1'; } | play
+    outcome "load of a pod that is held without an alarm"
 }
 
 # A script is a test: status 1 where a line that expects isn't met, or none expects.
@@ -341,6 +362,7 @@ files
 queues
 predictions
 wafers
+hands
 checks
 wrong_calls
 logs
