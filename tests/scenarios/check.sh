@@ -48,11 +48,12 @@ check_labels() {
     done
 }
 
-# A script r1_2_NN plays Table R1-NN, and r3_4_NN Table R3-NN.
+# A script r1_2_NN plays Table R1-NN, r3_4_NN Table R3-NN, and r1_4_NN Figure R1-NN, which is listed with that word.
 check_script() {
-    table=$(echo "$1" | sed 's/^r\([13]\)_[24]_0*\([0-9]*\)_.*/R\1-\2/')
-    [ "$(cell "$1" 1)" = "| $table" ] || say "$1 isn't listed at Table $table in $scenarios"
-    grep -q "Table $table:" "$folder/$1.script" || say "$1.script doesn't name Table $table"
+    played=$(echo "$1" | sed -e 's/^r1_4_0*\([0-9]*\)_.*/Figure R1-\1/' \
+        -e 's/^r\([13]\)_[24]_0*\([0-9]*\)_.*/Table R\1-\2/')
+    [ "$(cell "$1" 1)" = "| ${played#Table }" ] || say "$1 isn't listed at $played in $scenarios"
+    grep -q "$played:" "$folder/$1.script" || say "$1.script doesn't name $played"
     cited=$(labels "$folder/$1.script" | paste -sd, - | sed 's/,/, /g')
     [ "$(cell "$1" 6)" = "${cited:-none}" ] || say "$1 cites ${cited:-none}, $scenarios lists $(cell "$1" 6)"
 }
@@ -65,7 +66,7 @@ check_tables() {
 }
 
 check_scripts() {
-    for file in "$folder"/r1_2_*.script "$folder"/r3_4_*.script; do
+    for file in "$folder"/r1_2_*.script "$folder"/r1_4_*.script "$folder"/r3_4_*.script; do
         check_script "$(basename "$file" .script)"
     done
     for name in $(grep -oE '`r[13]_[24]_[a-z0-9_]+`' "$scenarios" | tr -d '`'); do
