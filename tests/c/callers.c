@@ -14,7 +14,8 @@
 
 static struct room tool_room, reports_room, name_room, codes_room, wafers_room;
 static unsigned long inputs, seed, at, failures, set_ups, unsound_tools, damaged_tools, slot_maps[HM_STATUS_FAILED + 1];
-static unsigned long answers[HM_REFUSED_TIME_OUT_OF_RANGE + 1], accepted_rows[HM_INPUTS + 1];
+static unsigned long answers[HM_REFUSED_AUTOMATIC_IN_MANUAL + 1], accepted_rows[HM_INPUTS + 1];
+static unsigned long alarms[HM_ALARM_ON + 1], held_pods;
 static unsigned long accepted_padded, refused_texts, predictions[HM_PREDICTION_COMPLETED + 1];
 static unsigned most_records, most_requests;
 
@@ -98,11 +99,11 @@ static struct outcome call(const hm_tool *tool, const struct input *in, enum pla
 /* Models in order, each with its own kind of subject, a difference or a tie that passes on. */
 static int well_formed(const hm_report *r, uint8_t model_before, unsigned ports)
 {
-    int of_port = r->model <= HM_MODEL_TIE;
+    int of_port = r->model <= HM_MODEL_TIE || r->model == HM_MODEL_ALARM;
     int subject = of_port ? r->port >= 1 && r->port <= ports && all_zero(r->name, sizeof r->name)
                           : r->port == 0 && r->name[0] != 0;
     int differs = r->old_state != r->new_state || (r->model == HM_MODEL_TIE && r->new_state == HM_TIED);
-    return r->model >= model_before && r->model <= HM_MODEL_PREDICTION && subject && differs;
+    return r->model >= model_before && r->model <= HM_MODEL_ALARM && subject && differs;
 }
 
 static void judge_reports(const struct input *in, const hm_reports *reports, unsigned ports)
@@ -207,6 +208,55 @@ static void judge_times(const hm_tool *before, const struct input *in, const hm_
     }
 }
 
+/* Alarm and held pod of a port after an accepted input, by the request's words. */
+static hm_hands hands_after(const hm_tool *before, const struct input *in, const hm_tool *after, unsigned i)
+{
+    const hm_port *port = &before->ports[i];
+    hm_hands hands = before->hands[i];
+
+    if (in->port == i + 1) {
+        switch (in->number) {
+        case HM_INPUT_LOAD_START:
+        case HM_INPUT_UNLOAD_START:
+            hands.alarm |= in->value == HM_START_MANUAL && port->access == HM_ACCESS_AUTO;
+            break;
+        case HM_INPUT_LOAD_DONE: hands.held = hands.alarm; break;
+        case HM_INPUT_CONTINUE: hands.alarm = hands.held = 0; break;
+        case HM_INPUT_LOAD_FAIL: hands.held = 0; break;
+        default: break;
+        }
+    }
+    if (after->ports[i].transfer == HM_TRANSFER_READY_TO_LOAD) {
+        hands.alarm = HM_ALARM_OFF;
+    }
+    return hands;
+}
+
+/* Alarms and held pods are as they should be, and those that changed are the last reports. */
+static void judge_hands(const hm_tool *before, const struct input *in, const struct outcome *out)
+{
+    unsigned i, told = out->reports.count;
+
+    for (i = HM_PORTS; i-- > 0;) {
+        const hm_hands expected = hands_after(before, in, &out->tool, i);
+        const uint8_t was = before->hands[i].alarm, is = out->tool.hands[i].alarm;
+        const hm_report *last = &out->reports.items[told == 0 ? 0 : told - 1];
+        if (memcmp(&expected, &out->tool.hands[i], sizeof expected) != 0) {
+            wrong(in, "an alarm or a held pod that this input doesn't leave");
+        }
+        if (was != is && (told-- == 0 || last->model != HM_MODEL_ALARM || last->port != i + 1 ||
+                          last->old_state != was || last->new_state != is)) {
+            wrong(in, "an alarm that isn't told last");
+            return;
+        }
+        alarms[is] += was != is;
+        held_pods += out->tool.hands[i].held > before->hands[i].held;
+    }
+    if (told > 0 && out->reports.items[told - 1].model == HM_MODEL_ALARM) {
+        wrong(in, "an alarm is told that didn't change");
+    }
+}
+
 /* A whole number of parts, or too many of them for any time. */
 static uint64_t parts_of(double time)
 {
@@ -262,14 +312,17 @@ static int may_answer(const struct input *in, uint32_t answer)
     case HM_INPUT_PREDICTED_TIME:
     case HM_INPUT_ESTIMATE:
     case HM_INPUT_NO_PREDICTION: return answer <= 2 || answer == 5 || answer == HM_REFUSED_CLOCK_EARLIER;
-    case HM_INPUT_WAFERS: return answer <= 2 || answer == 5 || answer >= HM_REFUSED_CLOCK_EARLIER;
+    case HM_INPUT_WAFERS: return answer <= 2 || answer == 5 || answer == HM_REFUSED_CLOCK_EARLIER || answer == 12;
+    case HM_INPUT_LOAD_START: return answer <= 1 || answer == 4 || answer == 5 || answer == 13;
+    case HM_INPUT_UNLOAD_START: return answer <= 1 || answer == 5 || answer == HM_REFUSED_AUTOMATIC_IN_MANUAL;
+    case HM_INPUT_CONTINUE: return answer <= 1 || answer == HM_REFUSED_CONDITIONS;
     default: return answer < HM_REFUSED_CLOCK_EARLIER;
     }
 }
 
 static void judge(const hm_tool *before, const struct input *in, const struct outcome *out)
 {
-    if (out->answer > HM_REFUSED_TIME_OUT_OF_RANGE || out->sound_before > 1 || !may_answer(in, out->answer)) {
+    if (out->answer > HM_REFUSED_AUTOMATIC_IN_MANUAL || out->sound_before > 1 || !may_answer(in, out->answer)) {
         wrong(in, "an answer that the documents don't have");
         return;
     }
@@ -290,6 +343,7 @@ static void judge(const hm_tool *before, const struct input *in, const struct ou
         judge_reports(in, &out->reports, out->tool.used);
         judge_queue(before, in, &out->tool);
         judge_times(before, in, &out->tool);
+        judge_hands(before, in, out);
         if (in->number == HM_INPUT_SLOT_MAP) {
             judge_slot_map(before, in, out);
         }
@@ -310,7 +364,7 @@ static void count(const struct input *in, const struct outcome *out)
 {
     unsigned i;
 
-    answers[out->answer <= HM_REFUSED_TIME_OUT_OF_RANGE ? out->answer : 1]++;
+    answers[out->answer <= HM_REFUSED_AUTOMATIC_IN_MANUAL ? out->answer : 1]++;
     for (i = 0; i < HM_REPORTS; i++) {
         const hm_report *r = &out->reports.items[i];
         predictions[r->model == HM_MODEL_PREDICTION && r->new_state <= HM_PREDICTION_COMPLETED ? r->new_state : 0]++;
@@ -369,7 +423,7 @@ static void plain_input(hm_tool *tool, uint32_t number, uint32_t port, uint32_t 
     memset(&in, 0, sizeof in);
     in.number = number;
     in.port = port;
-    in.value = place;
+    in.value = number == HM_INPUT_LOAD_START ? 0u + HM_START_MANUAL : place;
     in.name_length = 1;
     in.name[0] = (uint8_t)('a' + place);
     in.codes_length = number == HM_INPUT_SLOT_MAP ? HM_SLOTS : 0;
@@ -512,7 +566,7 @@ static void summary(void)
     printf("callers: %lu inputs of seed %lu, %lu set-ups, %lu damaged tools, %lu inputs to a tool that isn't sound\n",
            at, seed, set_ups, damaged_tools, unsound_tools);
     predicted = print_predictions();
-    for (i = 0; i <= HM_REFUSED_TIME_OUT_OF_RANGE; i++) {
+    for (i = 0; i <= HM_REFUSED_AUTOMATIC_IN_MANUAL; i++) {
         printf("%s%u: %lu", i == 0 ? "answers " : ", ", i, answers[i]);
         met += answers[i] > 0;
     }
@@ -523,10 +577,11 @@ static void summary(void)
            most_requests);
     printf("slot maps OK at once %lu, for the host %lu, ", slot_maps[HM_STATUS_OK],
            slot_maps[HM_STATUS_WAITING_FOR_HOST]);
+    printf("alarms set %lu, cleared %lu, pods held %lu, ", alarms[HM_ALARM_ON], alarms[HM_ALARM_OFF], held_pods);
     printf("padded names accepted %lu, texts that are no name %lu, %lu failed\n", accepted_padded, refused_texts,
            failures);
-    if (inputs >= ENOUGH && (rows < HM_INPUTS || met <= HM_REFUSED_TIME_OUT_OF_RANGE || unsound_tools == 0 ||
-                             !predicted || most_requests < HM_REQUESTS || slot_maps[HM_STATUS_OK] == 0 ||
+    if (inputs >= ENOUGH && (rows < HM_INPUTS || met <= HM_REFUSED_AUTOMATIC_IN_MANUAL || unsound_tools == 0 ||
+                             alarms[HM_ALARM_OFF] == 0 || held_pods == 0 || !predicted || most_requests < HM_REQUESTS || slot_maps[HM_STATUS_OK] == 0 ||
                              slot_maps[HM_STATUS_WAITING_FOR_HOST] == 0 || accepted_padded == 0 ||
                              refused_texts == 0)) {
         fprintf(stderr, "too little was met for this to mean anything\n");

@@ -227,17 +227,17 @@ static void one_odd_part(struct input *in)
 }
 
 /* What a port of this state may be waiting for. */
-static uint32_t number_for_port(const hm_port *port)
+static uint32_t number_for_port(const hm_port *port, const hm_hands *hands)
 {
     static const uint8_t ready[] = {1, 2, 7, 9, 10, 11, 12, 13, 13, 13, 13, 13, 27, 27, 27, 27};
     static const uint8_t reserved[] = {2, 9, 12, 13, 13, 13, 27, 28, 28, 28, 28};
-    static const uint8_t loading[] = {14, 14, 14, 15};
+    static const uint8_t loading[] = {14, 14, 14, 15}, held[] = {14, 15, 36, 36, 36};
     static const uint8_t unloading[] = {25, 25, 25, 26};
     static const uint8_t unread[] = {2, 9, 16, 16, 16, 16, 17};
     static const uint8_t blocked[] = {5, 6, 9, 18, 18, 18, 18};
     static const uint8_t leaving[] = {6, 8, 9, 24, 24, 24};
     if (port->movement == HM_MOVEMENT_LOADING) {
-        return loading[below(sizeof loading)];
+        return hands->held ? held[below(sizeof held)] : loading[below(sizeof loading)];
     }
     if (port->movement == HM_MOVEMENT_UNLOADING) {
         return unloading[below(sizeof unloading)];
@@ -287,6 +287,16 @@ static uint32_t number_for_prediction(const hm_prediction *own)
     return numbers[below(sizeof numbers)];
 }
 
+/* Most pods are moved by whom the port is for; the value is 0 or 1 before. */
+static void fitting_start(struct input *in, const hm_tool *tool)
+{
+    const int starts = in->number == HM_INPUT_LOAD_START || in->number == HM_INPUT_UNLOAD_START;
+
+    if (starts && in->port >= 1 && in->port <= HM_PORTS && below(3)) {
+        in->value = tool->ports[in->port - 1].access;
+    }
+}
+
 /* An input that a carrier or a port of this tool may be waiting for, and some that none waits for. */
 static void fitting_number(struct input *in, const hm_tool *tool, const hm_carrier *carrier)
 {
@@ -303,8 +313,9 @@ static void fitting_number(struct input *in, const hm_tool *tool, const hm_carri
         in->number = number_for_carrier(carrier);
         in->port = below(2) && in->number <= HM_INPUT_CANCEL_CARRIER ? carrier->port : in->port;
     } else {
-        in->number = number_for_port(&tool->ports[in->port - 1]);
+        in->number = number_for_port(&tool->ports[in->port - 1], &tool->hands[in->port - 1]);
     }
+    fitting_start(in, tool);
     if (in->number == HM_INPUT_MOVE_IN) {
         in->value = 1 + below(tool->places + 1u);
     }
@@ -349,10 +360,13 @@ static inline void damage(hm_tool *tool)
         memset(tool, (int)below(256), sizeof *tool);
     }
     while (changes-- > 0) {
-        static const uint32_t starts[] = {0, 0, 0, offsetof(hm_tool, expected_maps), offsetof(hm_tool, queued),
-                                          offsetof(hm_tool, clock)};
-        uint32_t part = below(6);
-        uint32_t where = starts[part] + below(part < 2 ? sizeof *tool : part >= 4 ? 60 : 300);
+        static const struct {
+            uint32_t start, length;
+        } parts[] = {{0, sizeof(hm_tool)}, {0, sizeof(hm_tool)}, {0, 300}, {offsetof(hm_tool, expected_maps), 300},
+                     {offsetof(hm_tool, queued), 60}, {offsetof(hm_tool, clock), 60},
+                     {offsetof(hm_tool, hands), HM_PORTS * sizeof(hm_hands)}};
+        uint32_t part = below(sizeof parts / sizeof parts[0]);
+        uint32_t where = parts[part].start + below(parts[part].length);
         ((uint8_t *)tool)[where] = (uint8_t)(below(2) ? draw() : below(6));
     }
 }

@@ -131,6 +131,16 @@ static void fill_fixed(void)
     }
 }
 
+/* A hand at a port in AUTO: its pod is held, and let stay. */
+static void by_hand(void)
+{
+    set_up(HM_PORTS, HM_PLACES);
+    plain_step(HM_INPUT_CHANGE_ACCESS, HM_PORTS, HM_ACCESS_AUTO, 0);
+    plain_step(HM_INPUT_LOAD_START, HM_PORTS, HM_START_MANUAL, 0);
+    plain_step(HM_INPUT_LOAD_DONE, HM_PORTS, 0, 0);
+    plain_step(HM_INPUT_CONTINUE, HM_PORTS, 0, 0);
+}
+
 /* A pod whose tag can't be read is rejected in a tool without a buffer: nine reports, the most of any input. */
 static void reject_unknown(void)
 {
@@ -158,9 +168,10 @@ static void every_row(hm_tool *kept_tool)
     tool = *kept_tool;
 }
 
-/* The last of the four is the full one, with a full queue. */
+/* The last of all is the full one, with a full queue. */
 static void every_row_to_full_tools(hm_tool *kept_tool)
 {
+    by_hand();
     reject_unknown();
     fill_fixed();
     every_row(kept_tool);

@@ -3,19 +3,22 @@
 
 /* A run can't tell these numbers from each other or doesn't reach them, so they are held against the documents here. */
 HM_HOLDS(limits_of_a_tool, HM_PORTS == 4 && HM_PLACES == 16 && HM_EXPECTED == 16 && HM_RECORDS == 36);
-HM_HOLDS(limits_of_an_input, HM_INPUTS == 35 && HM_SLOTS == 25 && HM_REPORTS == 10 && HM_NAME_BYTES == 16);
+HM_HOLDS(limits_of_an_input, HM_INPUTS == 36 && HM_SLOTS == 25 && HM_REPORTS == 10 && HM_NAME_BYTES == 16);
 HM_HOLDS(records_at_once, HM_RECORDS == HM_EXPECTED + HM_PLACES + HM_PORTS);
 HM_HOLDS(bytes_of_a_name, HM_NAME_BYTE_LEAST == 0x21 && HM_NAME_BYTE_GREATEST == 0x7E);
 HM_HOLDS(bytes_of_a_text, HM_TEXT_BYTES == 32 && HM_BLANK == 0x20 && HM_BLANK < HM_NAME_BYTE_LEAST);
 HM_HOLDS(models_of_ports, HM_MODEL_TRANSFER == 1 && HM_MODEL_ACCESS == 2 && HM_MODEL_RESERVATION == 3);
-HM_HOLDS(last_model_of_ports, HM_MODEL_TIE == 4);
+HM_HOLDS(more_models_of_ports, HM_MODEL_TIE == 4 && HM_MODEL_ALARM == 9);
 HM_HOLDS(models_of_carriers, HM_MODEL_ID == 5 && HM_MODEL_SLOT == 6 && HM_MODEL_ACCESSING == 7);
 HM_HOLDS(last_model_of_carriers, HM_MODEL_PREDICTION == 8);
 HM_HOLDS(ends, HM_INPUT_BIND == 1 && HM_INPUT_UNLOAD_FAIL == 26 && HM_REFUSED_PLACE_OR_OPENER_TAKEN == 8);
 HM_HOLDS(inputs_of_the_queue, HM_INPUT_OUT_START == 27 && HM_INPUT_CANCEL_ALL_CARRIER_OUT == 30);
 HM_HOLDS(inputs_with_a_clock, HM_INPUT_CLOCK == 31 && HM_INPUT_PREDICTED_TIME == 32 && HM_INPUT_ESTIMATE == 33);
 HM_HOLDS(last_with_a_time, HM_INPUT_NO_PREDICTION == 34 && HM_REFUSED_CLOCK_EARLIER == 11);
-HM_HOLDS(last_input, HM_INPUT_WAFERS == HM_INPUTS && HM_REFUSED_TIME_OUT_OF_RANGE == 12);
+HM_HOLDS(input_with_wafers, HM_INPUT_WAFERS == 35 && HM_REFUSED_TIME_OUT_OF_RANGE == 12);
+HM_HOLDS(last_input, HM_INPUT_CONTINUE == HM_INPUTS && HM_REFUSED_AUTOMATIC_IN_MANUAL == 13);
+HM_HOLDS(who_starts, HM_START_MANUAL == 0 && HM_START_AUTOMATIC == 1);
+HM_HOLDS(alarm_and_held, HM_ALARM_OFF == 0 && HM_ALARM_ON == 1 && HM_NOT_HELD == 0 && HM_HELD == 1);
 HM_HOLDS(wafers, HM_WAFERS == 25 && HM_WAFER_PARTS == 1024 && HM_WAFER_SECONDS == 1048576);
 HM_HOLDS(states_before_tp, HM_PREDICTION_DISABLED == 1 && HM_PREDICTION_WAITING_FOR_CARRIER == 2);
 HM_HOLDS(states_with_tp, HM_PREDICTION_WAITING_FOR_PREDICTION == 3 && HM_PREDICTION_PREDICTED == 4);
@@ -35,7 +38,8 @@ HM_HOLDS(verdicts, HM_LOG_AGREES == 0 && HM_LOG_ENTRY_DISAGREES == 1 && HM_REFUS
 HM_HOLDS(bytes_of_document_01, HM_TOOL_01_BYTES == 1891);
 HM_HOLDS(bytes_of_a_tool, HM_TOOL_BYTES == 2 * 1891);
 HM_HOLDS(bytes_to_spare, HM_SPARE_BYTES == 1891 - HM_RECORDS * HM_SLOTS - 1 - HM_REQUESTS * sizeof(hm_request) -
-                                             3 * sizeof(hm_time) - HM_RECORDS * sizeof(hm_prediction));
+                                             3 * sizeof(hm_time) - HM_RECORDS * sizeof(hm_prediction) -
+                                             HM_PORTS * sizeof(hm_hands));
 HM_HOLDS(bytes_of_reports, HM_REPORTS_BYTES == 1 + HM_REPORTS * sizeof(hm_report));
 
 static hm_tool tool;
@@ -93,12 +97,17 @@ static void a_pod_comes_in(void)
 {
     hm_found found;
 
-    ACCEPTED(HM_INPUT_LOAD_START, 1, 0, "");
+    ACCEPTED(HM_INPUT_LOAD_START, 1, HM_START_AUTOMATIC, "");
     CHECK(one->transfer == HM_TRANSFER_BLOCKED && one->movement == HM_MOVEMENT_LOADING);
     ACCEPTED(HM_INPUT_LOAD_FAIL, 1, 0, "");
     CHECK(one->transfer == HM_TRANSFER_READY_TO_LOAD && one->movement == HM_MOVEMENT_NONE);
-    ACCEPTED(HM_INPUT_LOAD_START, 1, 0, "");
+    ACCEPTED(HM_INPUT_LOAD_START, 1, HM_START_MANUAL, "");
+    CHECK(reports.items[1].model == HM_MODEL_ALARM && reports.items[1].new_state == HM_ALARM_ON);
+    CHECK(tool.hands[0].alarm == HM_ALARM_ON && tool.hands[0].held == HM_NOT_HELD);
     ACCEPTED(HM_INPUT_LOAD_DONE, 1, 0, "");
+    CHECK(tool.hands[0].held == HM_HELD && one->pod == HM_NO_POD && one->movement == HM_MOVEMENT_LOADING);
+    ACCEPTED(HM_INPUT_CONTINUE, 1, 0, "");
+    CHECK(tool.hands[0].alarm == HM_ALARM_OFF && tool.hands[0].held == HM_NOT_HELD && reports.count == 1);
     CHECK(one->pod == HM_POD_PRESENT && one->tag == HM_TAG_UNREAD);
     ACCEPTED(HM_INPUT_ID_READ, 1, 0, "A");
     CHECK(one->tag == HM_TAG_READ && first->place == HM_PLACE_PORT && first->port == 1);
@@ -149,18 +158,19 @@ static void a_pod_goes_out(void)
     CHECK(one->transfer == HM_TRANSFER_BLOCKED && first->came_out == 0);
     ACCEPTED(HM_INPUT_CANCEL_CARRIER, 1, 0, "A");
     CHECK(one->transfer == HM_TRANSFER_READY_TO_UNLOAD && first->cancelled == 1);
-    ACCEPTED(HM_INPUT_UNLOAD_START, 1, 0, "");
-    CHECK(one->movement == HM_MOVEMENT_UNLOADING);
+    ACCEPTED(HM_INPUT_UNLOAD_START, 1, HM_START_MANUAL, "");
+    CHECK(one->movement == HM_MOVEMENT_UNLOADING && tool.hands[0].alarm == HM_ALARM_ON);
     ACCEPTED(HM_INPUT_UNLOAD_FAIL, 1, 0, "");
     CHECK(one->movement == HM_MOVEMENT_NONE && one->transfer == HM_TRANSFER_READY_TO_UNLOAD);
-    ACCEPTED(HM_INPUT_UNLOAD_START, 1, 0, "");
+    ACCEPTED(HM_INPUT_UNLOAD_START, 1, HM_START_AUTOMATIC, "");
+    CHECK(tool.hands[0].alarm == HM_ALARM_ON);
     ACCEPTED(HM_INPUT_UNLOAD_DONE, 1, 0, "");
-    CHECK(one->pod == HM_NO_POD && tool.count == 0);
+    CHECK(one->pod == HM_NO_POD && tool.count == 0 && tool.hands[0].alarm == HM_ALARM_OFF);
 }
 
 static void a_pod_without_a_name(void)
 {
-    ACCEPTED(HM_INPUT_LOAD_START, 1, 0, "");
+    ACCEPTED(HM_INPUT_LOAD_START, 1, HM_START_AUTOMATIC, "");
     ACCEPTED(HM_INPUT_LOAD_DONE, 1, 0, "");
     ACCEPTED(HM_INPUT_ID_READ_FAILED, 1, 0, "");
     CHECK(one->tag == HM_TAG_FAILED);
@@ -252,7 +262,8 @@ static void refusals(void)
     ACCEPTED(HM_INPUT_RESERVE_AT_PORT, 1, 0, "");
     CHECK(GIVE(HM_INPUT_RESERVE_AT_PORT, 1, 0, "") == HM_REFUSED_RESERVED_OR_TIED);
     CHECK(GIVE(HM_INPUT_LOAD_DONE, 1, 0, "") == HM_REFUSED_CONDITIONS);
-    ACCEPTED(HM_INPUT_LOAD_START, 1, 0, "");
+    CHECK(GIVE(HM_INPUT_LOAD_START, 1, HM_START_AUTOMATIC, "") == HM_REFUSED_AUTOMATIC_IN_MANUAL);
+    ACCEPTED(HM_INPUT_LOAD_START, 1, HM_START_MANUAL, "");
     ACCEPTED(HM_INPUT_LOAD_DONE, 1, 0, "");
     CHECK(GIVE(HM_INPUT_MOVE_IN, 1, 1, "") == HM_REFUSED_NOT_VERIFIED);
     ACCEPTED(HM_INPUT_ID_READ, 1, 0, "a");

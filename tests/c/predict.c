@@ -322,13 +322,13 @@ static int sound_with(size_t at, uint8_t value)
     return sound;
 }
 
-/* Each byte from the clock to the end with each value. */
+/* Each byte from the clock to the last prediction with each value. */
 static unsigned sound_values(void)
 {
     size_t at;
     unsigned sound = 0;
 
-    for (at = offsetof(hm_tool, clock) * 256u; at < sizeof tool * 256u; at++) {
+    for (at = offsetof(hm_tool, clock) * 256u; at < offsetof(hm_tool, hands) * 256u; at++) {
         sound += sound_with(at / 256, (uint8_t)(at % 256)) ? 1u : 0u;
     }
     return sound;
@@ -336,7 +336,7 @@ static unsigned sound_values(void)
 
 /* Any clock. Setting time and timeout up to 86,400: any low byte, any second one, 0 and 1 as the third, no fourth. */
 #define OF_TIMES (4u * 256 + 2 * (256 + 256 + 2 + 1))
-#define UNUSED (34u * sizeof(hm_prediction) + HM_SPARE_BYTES)
+#define UNUSED (34u * sizeof(hm_prediction))
 
 static void every_byte_that_is_damaged(void)
 {
