@@ -204,6 +204,38 @@ static void wafers_of_every_number(hm_tool *tool, hm_reports *reports)
           "far too many doubles");
 }
 
+/* An input that has neither name nor codes. */
+static uint32_t plain(hm_tool *tool, hm_reports *reports, uint32_t number, uint32_t port, uint32_t value)
+{
+    garbage();
+    return hm_step(tool, reports, number, port, value, HM_NOTHING, 0, HM_NOTHING, 0);
+}
+
+/* Who starts, for whom the port is: which start is refused, and whose pod is held until Continue. */
+static void hands_on_every_port(hm_tool *tool, hm_reports *reports)
+{
+    uint32_t port, access, start;
+
+    for (port = 1; port <= HM_PORTS; port++) {
+        for (access = HM_ACCESS_MANUAL; access <= HM_ACCESS_AUTO; access++) {
+            for (start = HM_START_MANUAL; start <= HM_START_AUTOMATIC + 1; start++) {
+                const uint32_t held = access == HM_ACCESS_AUTO && start == HM_START_MANUAL;
+                const uint32_t good = start == HM_START_MANUAL || (start == HM_START_AUTOMATIC && access == 1);
+                const uint32_t refusal = start <= 1 ? HM_REFUSED_AUTOMATIC_IN_MANUAL : HM_REFUSED_OUT_OF_RANGE;
+                const hm_hands *const own = &tool->hands[port - 1];
+                check(hm_setup(tool, HM_PORTS, 0, SETTING, TIMEOUT) == HM_ACCEPTED, "set up");
+                check(plain(tool, reports, HM_INPUT_CHANGE_ACCESS, port, access) == HM_ACCEPTED, "for whom it is");
+                check(plain(tool, reports, HM_INPUT_LOAD_START, port, start) == (good ? 0 : refusal), "who starts");
+                check(own->alarm == held && reports->count == good + held, "a hand on an AUTO port");
+                check(plain(tool, reports, HM_INPUT_LOAD_DONE, port, 0) == (good ? 0u : 5u), "done");
+                check(own->held == held && tool->ports[port - 1].pod == (good && !held), "a pod is held");
+                check(plain(tool, reports, HM_INPUT_CONTINUE, port, 0) == (held ? 0u : 5u), "continued");
+                check(own->alarm == 0 && own->held == 0 && tool->ports[port - 1].pod == good, "a pod stays");
+            }
+        }
+    }
+}
+
 static uint32_t give(hm_tool *tool, hm_reports *reports, const uint8_t *name, const uint8_t *codes)
 {
     if (for_time_step(&in)) {
@@ -275,6 +307,7 @@ int main(void)
     inputs_of_every_length(&tool, &reports);
     times_of_every_length(&tool, &reports);
     wafers_of_every_number(&tool, &reports);
+    hands_on_every_port(&tool, &reports);
     cut_messages(&tool, &reports);
     check(hm_tool_size() == sizeof tool && hm_reports_size() == sizeof reports, "sizes");
     every_alignment(&tool, &reports);

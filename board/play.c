@@ -281,7 +281,7 @@ static int print_answers(void)
     uint32_t i, all = 1;
 
     for (i = 0; i <= HM_REFUSED_SHAPE_OR_ACTION; i++) {
-        if (i <= HM_REFUSED_TIME_OUT_OF_RANGE || i >= HM_REFUSED_CUT_SHORT) {
+        if (i <= HM_REFUSED_AUTOMATIC_IN_MANUAL || i >= HM_REFUSED_CUT_SHORT) {
             put_words(i == 0 ? "answers " : ", ");
             put_number(i);
             put_words(": ");

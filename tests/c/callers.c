@@ -581,7 +581,8 @@ static void summary(void)
     printf("padded names accepted %lu, texts that are no name %lu, %lu failed\n", accepted_padded, refused_texts,
            failures);
     if (inputs >= ENOUGH && (rows < HM_INPUTS || met <= HM_REFUSED_AUTOMATIC_IN_MANUAL || unsound_tools == 0 ||
-                             alarms[HM_ALARM_OFF] == 0 || held_pods == 0 || !predicted || most_requests < HM_REQUESTS || slot_maps[HM_STATUS_OK] == 0 ||
+                             alarms[HM_ALARM_OFF] == 0 || held_pods == 0 || !predicted ||
+                             most_requests < HM_REQUESTS || slot_maps[HM_STATUS_OK] == 0 ||
                              slot_maps[HM_STATUS_WAITING_FOR_HOST] == 0 || accepted_padded == 0 ||
                              refused_texts == 0)) {
         fprintf(stderr, "too little was met for this to mean anything\n");

@@ -40,6 +40,16 @@ static void plain_step(uint32_t number, uint32_t port, uint32_t value, uint32_t 
     step();
 }
 
+/* As many wafers, one of them with a time that is no good. */
+static void refused_wafers(uint32_t letter)
+{
+    plain_step(HM_INPUT_CLOSE, 0, 0, letter); /* refused, too: it is IN ACCESS */
+    in.number = HM_INPUT_WAFERS;
+    most_wafers();
+    in.rest.wafers[HM_WAFERS - 1].handling = -1;
+    step();
+}
+
 static void load(uint32_t port, uint32_t letter)
 {
     plain_step(HM_INPUT_LOAD_START, port, 0, 0);
@@ -126,6 +136,7 @@ static void fill_fixed(void)
         plain_step(HM_INPUT_ACCESS_END, 0, 0, i);
         plain_step(HM_INPUT_CLOSE, 0, 0, i);
     }
+    refused_wafers(0);
     for (i = 0; i < HM_PORTS; i++) {
         plain_step(i == 0 ? HM_INPUT_WAFERS : HM_INPUT_PREDICTED_TIME, 0, 0, i);
     }
