@@ -1,7 +1,7 @@
 /*
  * From a report to SEMI E87-0312: the numbered transitions that the report of an accepted input stands for, and those
- * of them that want a collection event. Those of model 8 are document 000's, which revises E87-0921. Made from
- * docs/events.tsv by `make diagrams`; docs/EVENTS.md says how to read it.
+ * of them that want a collection event. Those of model 8 are document 000's, which revises E87-0921. Model 9 is an
+ * alarm, and has neither. Made from docs/events.tsv by `make diagrams`; docs/EVENTS.md says how to read it.
  */
 #ifndef HAWSERMOLE_EVENTS_H
 #define HAWSERMOLE_EVENTS_H
@@ -13,12 +13,12 @@ typedef struct hm_event {
     uint8_t model;     /* enum hm_model */
     uint8_t old_state;
     uint8_t new_state;
-    uint8_t table;     /* the standard's table of the model's transitions: 5, 7, 9, 10 or 11 */
+    uint8_t table;     /* the standard's table of the transitions: 5, 7, 9, 10 or 11; of alarms for model 9: 38 */
     uint8_t passed[3]; /* transitions of that table in the order in which they are passed; zeros after the last */
     uint8_t events[3]; /* those of them that want a collection event; zeros after the last */
 } hm_event;
 
-#define HM_EVENTS 126
+#define HM_EVENTS 132
 
 /* Every report that a run can give, HM_EVENTS of them. */
 static inline const hm_event *hm_events(void)
@@ -75,7 +75,9 @@ static inline const hm_event *hm_events(void)
         {12, 3, 1, 0, 10, {3, 0, 0}, {3, 0, 0}}, /* CancelReservationAtPort */
         {13, 1, 1, 3, 5, {6, 0, 0}, {6, 0, 0}}, /* LoadStart */
         {13, 3, 1, 0, 10, {3, 0, 0}, {3, 0, 0}}, /* LoadStart */
+        {13, 9, 0, 1, 38, {0, 0, 0}, {0, 0, 0}}, /* LoadStart */
         {15, 1, 3, 1, 5, {10, 5, 0}, {10, 5, 0}}, /* LoadFail */
+        {15, 9, 1, 0, 38, {0, 0, 0}, {0, 0, 0}}, /* LoadFail */
         {16, 4, 0, 1, 11, {2, 0, 0}, {2, 0, 0}}, /* IdRead */
         {16, 4, 1, 1, 11, {4, 0, 0}, {4, 0, 0}}, /* IdRead */
         {16, 5, 0, 2, 7, {1, 3, 0}, {3, 0, 0}}, /* IdRead */
@@ -91,6 +93,7 @@ static inline const hm_event *hm_events(void)
         {17, 5, 1, 2, 7, {7, 0, 0}, {7, 0, 0}}, /* IdReadFailed */
         {18, 1, 3, 1, 5, {8, 0, 0}, {8, 0, 0}}, /* MoveIn */
         {18, 4, 1, 0, 11, {3, 0, 0}, {3, 0, 0}}, /* MoveIn */
+        {18, 9, 1, 0, 38, {0, 0, 0}, {0, 0, 0}}, /* MoveIn */
         {20, 6, 1, 2, 7, {14, 0, 0}, {14, 0, 0}}, /* SlotMap */
         {20, 6, 1, 3, 7, {13, 0, 0}, {13, 0, 0}}, /* SlotMap */
         {21, 7, 1, 2, 7, {18, 0, 0}, {18, 0, 0}}, /* AccessStart */
@@ -102,6 +105,7 @@ static inline const hm_event *hm_events(void)
         {23, 8, 4, 6, 7, {25, 0, 0}, {25, 0, 0}}, /* Close */
         {23, 8, 5, 6, 7, {29, 0, 0}, {29, 0, 0}}, /* Close */
         {24, 1, 2, 3, 5, {7, 0, 0}, {7, 0, 0}}, /* UnloadStart */
+        {24, 9, 0, 1, 38, {0, 0, 0}, {0, 0, 0}}, /* UnloadStart */
         {25, 1, 3, 1, 5, {8, 0, 0}, {8, 0, 0}}, /* UnloadDone */
         {25, 4, 1, 0, 11, {3, 0, 0}, {3, 0, 0}}, /* UnloadDone */
         {25, 5, 3, 0, 7, {21, 0, 0}, {21, 0, 0}}, /* UnloadDone */
@@ -118,6 +122,7 @@ static inline const hm_event *hm_events(void)
         {25, 8, 4, 0, 7, {21, 0, 0}, {0, 0, 0}}, /* UnloadDone */
         {25, 8, 5, 0, 7, {21, 0, 0}, {0, 0, 0}}, /* UnloadDone */
         {25, 8, 6, 0, 7, {21, 0, 0}, {0, 0, 0}}, /* UnloadDone */
+        {25, 9, 1, 0, 38, {0, 0, 0}, {0, 0, 0}}, /* UnloadDone */
         {26, 1, 3, 2, 5, {10, 5, 0}, {10, 5, 0}}, /* UnloadFail */
         {26, 8, 4, 6, 7, {25, 0, 0}, {25, 0, 0}}, /* UnloadFail */
         {26, 8, 5, 6, 7, {29, 0, 0}, {29, 0, 0}}, /* UnloadFail */
@@ -150,6 +155,7 @@ static inline const hm_event *hm_events(void)
         {35, 8, 4, 5, 7, {28, 0, 0}, {28, 0, 0}}, /* Wafers */
         {35, 8, 4, 6, 7, {25, 0, 0}, {25, 0, 0}}, /* Wafers */
         {35, 8, 5, 6, 7, {29, 0, 0}, {29, 0, 0}}, /* Wafers */
+        {36, 9, 1, 0, 38, {0, 0, 0}, {0, 0, 0}}, /* Continue */
     };
     return events;
 }

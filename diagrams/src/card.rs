@@ -25,6 +25,7 @@ fn first_thing(refusal: Refusal) -> &'static str {
         Refusal::QueuedAlready => "nothing; for another port CancelCarrierOut first",
         Refusal::ClockEarlier => "send the time as it is; a clock set back: go on from the last accepted",
         Refusal::TimeOutOfRange => "send whole 1/1024ths of a second",
+        Refusal::AutomaticInManual => "keep the vehicle away, or ChangeAccess to AUTO first",
         Refusal::RoomTooSmall => "lend 95 bytes of room, and take the message again",
         Refusal::CutShort => "bytes lost, or a length that is too large",
         Refusal::UnknownCode => "JIS-8, or another text format",
@@ -45,7 +46,7 @@ fn short(word: &str) -> String {
 }
 
 fn model_line(model: Model) -> String {
-    let subject = if model <= Model::Tie { "port" } else { "carrier" };
+    let subject = if model <= Model::Tie || model == Model::Alarm { "port" } else { "carrier" };
     let states: Vec<String> = (0..=6)
         .filter(|&state| hawsermole::states::State::of(model, state).is_some())
         .map(|state| format!("{state}\u{a0}{}", short(model.state(state))))
@@ -78,7 +79,8 @@ pub fn card() -> String {
     text += &Model::ALL.map(model_line).concat();
     text += "\nOn the wire (E87.1): transfer 1, 2, 3 are 2, 3, 1 there; models 5 to 8 are one less. \
              A tie 1>1 has passed to another carrier. \
-             PREDICTED at Tp less setting time, ABORTED at Tp plus timeout, if a clock is sent.\n\n";
+             PREDICTED at Tp less setting time, ABORTED at Tp plus timeout, if a clock is sent. \
+             A hand at an AUTO port: alarm on; its pod is held from LoadDone until Continue or LoadFail.\n\n";
     text += &format!(
         "Movement: {}. Tag: {}. Place: {}. Request: {}.\n",
         numbered!(Movement),
@@ -109,10 +111,12 @@ mod tests {
             "\n| 8 ready to unload prediction status | carrier | 0 no record, 1 DISABLED, 2 WAITING FOR CARRIER, ",
             "\n| 11 | the clock is earlier than the last accepted |",
             "\n| 12 | a wafer's time or the predicted time is out of range |",
-            "30 CancelAllCarrierOut, 31 Clock, 32 PredictedTime, 33 Estimate, 34 NoPrediction, 35 Wafers.",
+            "\n| 13 | an automatic start in MANUAL | keep the vehicle away,",
+            "\n| 9 AccessModeViolation alarm | port | 0 off, 1 on | 38 |",
+            "32 PredictedTime, 33 Estimate, 34 NoPrediction, 35 Wafers, 36 Continue.",
         ] {
             assert!(card.contains(part), "{part}\n{card}");
         }
-        assert_eq!(card.lines().filter(|line| line.starts_with("| ")).count(), 1 + 20 + 1 + 8);
+        assert_eq!(card.lines().filter(|line| line.starts_with("| ")).count(), 1 + 21 + 1 + 9);
     }
 }

@@ -1,7 +1,7 @@
 /*
  * From a report to SEMI E87-0312: the numbered transitions that the report of an accepted input stands for, and those
- * of them that want a collection event. Those of model 8 are document 000's, which revises E87-0921. Made from
- * docs/events.tsv by `make diagrams`; docs/EVENTS.md says how to read it.
+ * of them that want a collection event. Those of model 8 are document 000's, which revises E87-0921. Model 9 is an
+ * alarm, and has neither. Made from docs/events.tsv by `make diagrams`; docs/EVENTS.md says how to read it.
  */
 #ifndef HAWSERMOLE_EVENTS_H
 #define HAWSERMOLE_EVENTS_H
@@ -13,7 +13,7 @@ typedef struct hm_event {
     uint8_t model;     /* enum hm_model */
     uint8_t old_state;
     uint8_t new_state;
-    uint8_t table;     /* the standard's table of the model's transitions: 5, 7, 9, 10 or 11 */
+    uint8_t table;     /* the standard's table of the transitions: 5, 7, 9, 10 or 11; of alarms for model 9: 38 */
     uint8_t passed[3]; /* transitions of that table in the order in which they are passed; zeros after the last */
     uint8_t events[3]; /* those of them that want a collection event; zeros after the last */
 } hm_event;

@@ -109,13 +109,13 @@ pub fn check(lines: &[Line], found: &Found) -> Result<(), String> {
     Ok(())
 }
 
-/// What a transition is reported as, by each input that causes it; a request's isn't.
+/// What a transition is reported as, by each input that causes it; a request's isn't, and that of hands is its alarm's.
 fn reported((edge, causes): (&Edge, &BTreeMap<Cause, Kinds>)) -> Vec<(u32, Model, u8, u8)> {
     match edge.of {
         Subject::Model(model) => {
             causes.keys().map(|cause| (cause.number, model, edge.old, edge.new)).collect()
         }
-        Subject::Request => Vec::new(),
+        Subject::Request | Subject::Hands => Vec::new(),
     }
 }
 

@@ -1,13 +1,13 @@
-//! Finds the transitions: every input to every tool that runs from a set-up reach, what the reports say, and what
-//! becomes of the requests for CarrierOut.
+//! Finds the transitions: every input to every tool that runs from a set-up reach, what the reports say, what becomes
+//! of the requests for CarrierOut, and where a hand on an AUTO port leads.
 //!
 //! The search is complete within its bounds: all runs, of any length, of the tools in [`SETUPS`] with inputs made
 //! of the ports of the tool (and 0), the names in [`NAMES`] (and none), every buffer place, both values of every
 //! choice, one expected map (and none), and one slot map, which equals it. A tool that was met before isn't followed
 //! again, so the search ends by itself. Nothing is predicted in these tools: a second search has [`TIMES`], and meets
 //! what becomes of predictions.
-use crate::subject::{request_of, Subject};
-use hawsermole::{Argument, Input, Model, Parts, Reports, Row, Tool, Wafer, ROWS, TOOL_BYTES};
+use crate::subject::{hands_of, request_of, Subject};
+use hawsermole::{Argument, Input, Model, Parts, Reports, Row, Tool, Wafer, PORTS, ROWS, TOOL_BYTES};
 use std::collections::{BTreeMap, BTreeSet, HashSet, VecDeque};
 
 /// Ports and buffer places. One port and two names meet all that needs two carriers: a name that isn't the one
@@ -62,7 +62,7 @@ pub struct Step<'a> {
 }
 
 /// What causes a transition: a row, with its value where the row's value is a choice of two. For a slot map the value
-/// is 1 where it is the expected one, else 0.
+/// is 1 where it is the expected one, else 0. Who starts is told of alarms alone: elsewhere it makes no difference.
 #[derive(Clone, Copy, Debug, PartialEq, Eq, PartialOrd, Ord)]
 pub struct Cause {
     pub number: u32,
@@ -79,7 +79,8 @@ pub struct Kinds {
 /// What the search found.
 #[derive(Debug, Default)]
 pub struct Found {
-    /// The state that set-up gives to every port, in models 1 to 4, and to the request of every carrier.
+    /// The state that set-up gives to every port, in models 1 to 4 and 9 and by what hands did, and to the request of
+    /// every carrier.
     pub first: BTreeSet<(Subject, u8)>,
     pub edges: BTreeMap<Edge, BTreeMap<Cause, Kinds>>,
     pub tools: usize,
@@ -98,7 +99,7 @@ pub fn explore() -> Found {
 /// Searches the runs of one set-up.
 pub fn explore_from(ports: u32, places: u32, names: &[&[u8]], found: &mut Found) {
     let start = start(ports, places, &STILL);
-    found.first.extend(start.ports().flat_map(states_at));
+    found.first.extend(start.ports().flat_map(|port| states_at(&start, port)));
     found.first.extend(names.iter().map(|name| (Subject::Request, request_of(&start, name))));
     search(start, &inputs(ports, places, names, &STILL), names, found);
 }
@@ -139,13 +140,14 @@ fn visit(port: u32, name: &[u8]) -> [Input<'_>; 8] {
 fn search(start: Tool, inputs: &[Input], names: &[&[u8]], found: &mut Found) {
     let places = start.places();
     let tools = each_step_from(start, inputs, |step| {
-        let cause = cause(step.after, step.input);
+        let cause = |of| cause(step.after, step.input, of);
         let requests: Vec<Edge> = names.iter().filter_map(|name| of_request(&step, name)).collect();
+        let hands: Vec<Edge> = (1..=PORTS as u32).filter_map(|port| of_hands(&step, port)).collect();
         let reported = step.reports.map(|report| {
             let of = Subject::Model(report.model);
             Edge { of, old: report.old, new: report.new }
         });
-        reported.chain(requests).for_each(|edge| found.note(edge, cause, places));
+        reported.chain(requests).chain(hands).for_each(|edge| found.note(edge, cause(edge.of), places));
     });
     found.tools += tools;
 }
@@ -154,6 +156,12 @@ fn search(start: Tool, inputs: &[Input], names: &[&[u8]], found: &mut Found) {
 fn of_request(step: &Step, name: &[u8]) -> Option<Edge> {
     let (old, new) = (request_of(step.before, name), request_of(step.after, name));
     (old != new).then_some(Edge { of: Subject::Request, old, new })
+}
+
+/// What became of alarm and held pod at a port.
+fn of_hands(step: &Step, port: u32) -> Option<Edge> {
+    let (old, new) = (hands_of(step.before, port), hands_of(step.after, port));
+    (old != new).then_some(Edge { of: Subject::Hands, old, new })
 }
 
 /// Calls with each accepted input to each tool that is reached, breadth first. Gives the number of tools.
@@ -182,14 +190,16 @@ fn each_step_from(start: Tool, inputs: &[Input], mut call: impl FnMut(Step<'_>))
     met.len()
 }
 
-fn states_at(port: hawsermole::Port) -> [(Subject, u8); 4] {
+fn states_at(tool: &Tool, port: hawsermole::Port) -> [(Subject, u8); 6] {
+    let number = port.number.into();
     [
-        (Model::Transfer, port.transfer),
-        (Model::Access, port.access),
-        (Model::Reservation, port.reserved),
-        (Model::Tie, u8::from(!port.tie.is_none())),
+        (Subject::Model(Model::Transfer), port.transfer),
+        (Subject::Model(Model::Access), port.access),
+        (Subject::Model(Model::Reservation), port.reserved),
+        (Subject::Model(Model::Tie), u8::from(!port.tie.is_none())),
+        (Subject::Model(Model::Alarm), u8::from(tool.alarm(number))),
+        (Subject::Hands, hands_of(tool, number)),
     ]
-    .map(|(model, state)| (Subject::Model(model), state))
 }
 
 impl Found {
@@ -202,10 +212,12 @@ impl Found {
     }
 }
 
-fn cause(tool: &Tool, input: &Input) -> Cause {
+fn cause(tool: &Tool, input: &Input, of: Subject) -> Cause {
     let parts = input.parts();
     let as_expected = || tool.expected_map(parts.name).is_some_and(|map| map == parts.codes);
-    let choice = choice(input.row()).map(|argument| match argument {
+    let alarms = [Subject::Model(Model::Alarm), Subject::Hands].contains(&of);
+    let told = |argument: &Argument| *argument != Argument::Start || alarms;
+    let choice = choice(input.row()).filter(told).map(|argument| match argument {
         Argument::Codes => u32::from(as_expected()),
         _ => parts.value,
     });
@@ -214,7 +226,7 @@ fn cause(tool: &Tool, input: &Input) -> Cause {
 
 /// The argument that is a choice of two, in the rows that have one.
 pub fn choice(row: &Row) -> Option<Argument> {
-    let choices = [Argument::Access, Argument::Service, Argument::End, Argument::Codes];
+    let choices = [Argument::Access, Argument::Service, Argument::End, Argument::Codes, Argument::Start];
     row.arguments.iter().copied().find(|argument| choices.contains(argument))
 }
 
@@ -265,7 +277,9 @@ fn with<'a>(
         Argument::PortOrNone => (0..=ports).map(port).collect(),
         Argument::Name => named.map(name).collect(),
         Argument::NameOrNone => named.chain([NO_NAME]).map(name).collect(),
-        Argument::Access | Argument::Service | Argument::End => (0..=1).map(value).collect(),
+        Argument::Access | Argument::Service | Argument::End | Argument::Start => {
+            (0..=1).map(value).collect()
+        }
         Argument::Place => (1..=places).map(value).collect(),
         Argument::Codes => vec![codes(MAP)],
         Argument::MapOrNone => [NO_MAP, MAP].map(codes).into(),

@@ -2,7 +2,7 @@
 //!
 //! Which states and transitions there are, and the words on them, come from the search.
 //! [`plan`](crate::plan) fails where the two don't meet, in either direction.
-use crate::subject::{Subject, NO_REQUEST, QUEUED, STARTED};
+use crate::subject::{Subject, ALARM, HELD, NO_ALARM, NO_REQUEST, QUEUED, STARTED};
 use hawsermole::Model;
 
 /// An end of a transition. `NoRecord` and `SetUp` are drawn as small dots, one for each transition.
@@ -57,8 +57,8 @@ const fn route(from: Node, to: Node, way: &'static [Point], label: Point, side: 
     Route { from, to, way, label, side }
 }
 
-pub const LAYOUTS: [Layout; 9] =
-    [TRANSFER, ACCESS, RESERVATION, TIE, ID, SLOT, ACCESSING, PREDICTION, REQUEST];
+pub const LAYOUTS: [Layout; 10] =
+    [TRANSFER, ACCESS, RESERVATION, TIE, ID, SLOT, ACCESSING, PREDICTION, REQUEST, HANDS];
 
 const TRANSFER: Layout = Layout {
     file: "transfer.svg",
@@ -223,6 +223,27 @@ const REQUEST: Layout = Layout {
             State(NO_REQUEST),
             &[(615, 64), (615, 150), (135, 150), (135, 64)],
             (375, 136),
+            Middle,
+        ),
+    ],
+};
+
+const HANDS: Layout = Layout {
+    file: "hands.svg",
+    of: Subject::Hands,
+    height: 180,
+    box_width: 100,
+    states: &[(NO_ALARM, (140, 75)), (ALARM, (395, 75)), (HELD, (600, 75))],
+    routes: &[
+        route(SetUp, State(NO_ALARM), &[(70, 75), (90, 75)], (60, 75), End),
+        route(State(NO_ALARM), State(ALARM), &[(190, 65), (345, 65)], (267, 30), Middle),
+        route(State(ALARM), State(NO_ALARM), &[(345, 85), (190, 85)], (267, 118), Middle),
+        route(State(ALARM), State(HELD), &[(445, 75), (550, 75)], (497, 61), Middle),
+        route(
+            State(HELD),
+            State(NO_ALARM),
+            &[(600, 97), (600, 165), (140, 165), (140, 97)],
+            (440, 143),
             Middle,
         ),
     ],

@@ -1,8 +1,9 @@
-//! The state models of document 01 and the life of a CarrierOut request as pictures, found by running the proved
-//! machine: [`explore`] finds every transition that a run from set-up can cause, [`layout`] says where things stand,
-//! [`plan`] joins the two, [`shape`] sees that nothing lies on anything else, and [`svg`] writes. [`subject`] has what
-//! a picture may be of. [`timeline`] draws what a prediction is when. [`walk`] makes tables of played scripts.
-//! [`events`] holds the standard's numbers of all reports to what [`explore`] found; [`card`] is for the pocket.
+//! The state models of document 01, the life of a CarrierOut request and hands on an AUTO port as pictures, found by
+//! running the proved machine: [`explore`] finds every transition that a run from set-up can cause, [`layout`] says
+//! where things stand, [`plan`] joins the two, [`shape`] sees that nothing lies on anything else, and [`svg`] writes.
+//! [`subject`] has what a picture may be of. [`timeline`] draws what a prediction is when. [`walk`] makes tables of
+//! played scripts. [`events`] holds the standard's numbers of all reports to what [`explore`] found; [`card`] is for
+//! the pocket.
 #![forbid(unsafe_code)]
 
 pub mod card;

@@ -65,10 +65,10 @@ fn unmark(subject: Subject, words: &mut Words) -> bool {
     all
 }
 
-/// 0 is a state of a port or a request, and "no state" of a carrier.
+/// 0 is a state of a port, a request or hands, and "no state" of a carrier.
 fn node(subject: Subject, state: u8) -> Node {
     match subject {
-        Subject::Model(model) if model > Model::Tie && state == 0 => Node::NoRecord,
+        Subject::Model(model) if model > Model::Tie && model < Model::Alarm && state == 0 => Node::NoRecord,
         _ => Node::State(state),
     }
 }

@@ -44,11 +44,11 @@ impl Rect {
     }
 }
 
-/// The part of a state's box that has its number; a request's states have none.
+/// The part of a state's box that has its number; the states of a request and of hands have none.
 pub fn number_width(layout: &Layout) -> i32 {
     match layout.of {
         Subject::Model(_) => 24,
-        Subject::Request => 0,
+        Subject::Request | Subject::Hands => 0,
     }
 }
 

@@ -2,17 +2,33 @@
 use hawsermole::states::RequestState;
 use hawsermole::{Model, Tool};
 
-/// A model of the reports, or the CarrierOut request of a carrier, of which no report tells.
+/// A model of the reports; the CarrierOut request of a carrier, of which no report tells; or what a hand did at a port:
+/// its alarm, model 9, and the pod that is held, of which no report tells.
 #[derive(Clone, Copy, Debug, PartialEq, Eq, PartialOrd, Ord)]
 pub enum Subject {
     Model(Model),
     Request,
+    Hands,
 }
 
 /// The states of a request.
 pub const NO_REQUEST: u8 = 0;
 pub const QUEUED: u8 = 1;
 pub const STARTED: u8 = 2;
+
+/// The states of a port that a hand was at: a pod is held only while the alarm is on.
+pub const NO_ALARM: u8 = 0;
+pub const ALARM: u8 = 1;
+pub const HELD: u8 = 2;
+
+/// The state of a port by what hands did there.
+pub fn hands_of(tool: &Tool, port: u32) -> u8 {
+    match (tool.alarm(port), tool.held(port)) {
+        (false, _) => NO_ALARM,
+        (true, false) => ALARM,
+        (true, true) => HELD,
+    }
+}
 
 /// The state of a carrier's request.
 pub fn request_of(tool: &Tool, name: &[u8]) -> u8 {
@@ -24,11 +40,12 @@ pub fn request_of(tool: &Tool, name: &[u8]) -> u8 {
 }
 
 impl Subject {
-    /// Its number, or `out` as in a dump of the command line.
+    /// Its number, `out` as in a dump of the command line, or `hands`.
     pub fn short(self) -> String {
         match self {
             Subject::Model(model) => model.number().to_string(),
             Subject::Request => "out".into(),
+            Subject::Hands => "hands".into(),
         }
     }
 
@@ -36,6 +53,7 @@ impl Subject {
         match self {
             Subject::Model(model) => format!("Model {}: {model}", model.number()),
             Subject::Request => "The CarrierOut request of a carrier".into(),
+            Subject::Hands => "Hands on an AUTO port".into(),
         }
     }
 
@@ -43,7 +61,7 @@ impl Subject {
     pub fn table(self) -> Option<u8> {
         match self {
             Subject::Model(model) => Some(model.table()),
-            Subject::Request => None,
+            Subject::Request | Subject::Hands => None,
         }
     }
 
@@ -54,6 +72,9 @@ impl Subject {
             (Subject::Request, NO_REQUEST) => "no request",
             (Subject::Request, QUEUED) => RequestState::Queued.word(),
             (Subject::Request, _) => RequestState::Started.word(),
+            (Subject::Hands, NO_ALARM) => "no alarm",
+            (Subject::Hands, ALARM) => "alarm on",
+            (Subject::Hands, _) => "alarm on, pod held",
         }
     }
 }

@@ -34,7 +34,7 @@ pub fn cause(edge: Edge, cause: Cause, kinds: Kinds) -> String {
     }
 }
 
-/// The transitions as the standard numbers them: `#10 #5`. It has no state model of a request.
+/// The transitions as the standard numbers them: `#10 #5`. It has no state model of a request or of hands.
 fn passed(Edge { of, old, new }: Edge, input: u32) -> Option<String> {
     let Subject::Model(model) = of else { return None };
     let event = Event::of_change(input, model, old, new);
@@ -52,6 +52,8 @@ fn value_word(argument: Argument, value: u32) -> &'static str {
         (Argument::Service, _) => "in",
         (Argument::Codes, 0) => "otherwise",
         (Argument::Codes, _) => "as expected",
+        (Argument::Start, 0) => "manual",
+        (Argument::Start, _) => "automatic",
         (_, 0) => "complete",
         (_, _) => "stopped",
     }
@@ -112,6 +114,9 @@ mod tests {
         assert_eq!(named(23, None, FIXED_ALONE, (Model::Transfer, 3, 2)), "Close #9 (F)");
         let of_request = Edge { of: Subject::Request, old: 1, new: 2 };
         assert_eq!(cause(of_request, Cause { number: 27, choice: None }, INTERNAL_ALONE), "OutStart (I)");
+        let of_hands = Edge { of: Subject::Hands, old: 0, new: 1 };
+        assert_eq!(cause(of_hands, Cause { number: 13, choice: Some(0) }, BOTH), "LoadStart: manual");
+        assert_eq!(named(13, None, BOTH, (Model::Transfer, 1, 3)), "LoadStart #6");
     }
 
     #[test]

@@ -1,8 +1,8 @@
 //! Plays a script of the command line and writes it as a table: each input, its answer and its reports,
 //! and what stands after it.
-use hawsermole::states::PredictionState;
+use hawsermole::states::{PredictionState, Start};
 use hawsermole::{
-    words, Argument, Carrier, Input, Parts, Port, Prediction, Refusal, Reports, Request, Row, Tool,
+    words, Argument, Carrier, Hands, Input, Parts, Port, Prediction, Refusal, Reports, Request, Row, Tool,
 };
 
 /// A script's steps as rows of a Markdown table.
@@ -61,7 +61,8 @@ fn codes(words: &[&str]) -> Vec<u8> {
 fn read<'a>(words: &[&'a str], codes: &'a [u8]) -> Option<Input<'a>> {
     let row = Row::named(words[0])?;
     let mut parts = Parts { number: row.number, ..Parts::default() };
-    let needed = row.arguments.iter().filter(|argument| **argument != Argument::MapOrNone).count();
+    let left_out = |argument: &&Argument| [Argument::MapOrNone, Argument::Start].contains(argument);
+    let needed = row.arguments.len() - row.arguments.iter().filter(left_out).count();
     if !(needed..=row.arguments.len()).contains(&(words.len() - 1)) {
         return None;
     }
@@ -70,6 +71,10 @@ fn read<'a>(words: &[&'a str], codes: &'a [u8]) -> Option<Input<'a>> {
             Argument::Port | Argument::PortOrNone => parts.port = word.parse().ok()?,
             Argument::Name | Argument::NameOrNone => parts.name = word.as_bytes(),
             Argument::Codes | Argument::MapOrNone => parts.codes = codes,
+            Argument::Start => {
+                let start = Start::ALL.iter().find(|start| start.word() == *word)?;
+                parts.value = start.number().into();
+            }
             Argument::Clock => parts.clock = word.parse().ok()?,
             Argument::Tp | Argument::Te => parts.time = word.parse().ok()?,
             _ => parts.value = word.parse().ok()?,
@@ -82,7 +87,8 @@ fn read<'a>(words: &[&'a str], codes: &'a [u8]) -> Option<Input<'a>> {
 /// left WAITING FOR CARRIER.
 fn changes(before: &Tool, after: &Tool) -> String {
     let old = |carrier: &Carrier| before.carriers().any(|old| old == *carrier);
-    let ports = after.ports().zip(before.ports()).filter(|(now, then)| now != then).map(|(now, _)| port(now));
+    let ports = after.ports().zip(after.hands()).zip(before.ports().zip(before.hands()));
+    let ports = ports.filter(|(now, then)| now != then).map(|((now, hands), _)| port(now, hands));
     let carriers = after.carriers().filter(|now| !old(now)).map(|now| carrier(after, now));
     let stays = |gone: &Carrier| after.carriers().any(|now| now.name == gone.name);
     let gone = before.carriers().filter(|then| !stays(then)).map(|then| format!("{}: no record", then.name));
@@ -115,7 +121,7 @@ fn prediction(Prediction { name, state, tp, te }: Prediction) -> String {
     format!("{name}: {}{}{}", words::prediction(state), time("Tp", tp), time("Te", te))
 }
 
-fn port(port: Port) -> String {
+fn port(port: Port, hands: Hands) -> String {
     let mut text = format!("port {}: {}", port.number, words::transfer(port.transfer));
     if port.access != 0 {
         text += &format!(", {}", words::access(port.access));
@@ -131,6 +137,11 @@ fn port(port: Port) -> String {
     }
     if port.pod != 0 {
         text += &format!(", pod, tag {}", words::tag(port.tag));
+    }
+    for (flag, word) in [(hands.alarm, ", alarm on"), (hands.held, ", pod held")] {
+        if flag != 0 {
+            text += word;
+        }
     }
     text
 }
@@ -167,7 +178,7 @@ mod tests {
         assert_eq!(
             rows,
             [
-                "| LoadStart(1) | `0  1 1 1>3` | port 1: TRANSFER BLOCKED, loading |",
+                "| LoadStart(1, manual) | `0  1 1 1>3` | port 1: TRANSFER BLOCKED, loading |",
                 "| Open(AB) | `2  none` | as before |",
                 "| LoadFail(1) | `0  1 1 3>1` | port 1: READY TO LOAD |",
                 "| ChangeAccess(1, 0) | `0  none` | as before |",
@@ -225,6 +236,24 @@ mod tests {
         let predicted =
             "| PredictedTime(9, A, 99) | `0  none` | clock 9<br>A: WAITING FOR PREDICTION, Tp 99 |";
         assert_eq!(rows[8..], [predicted, "| Clock(9) | `0  none` | as before |"]);
+    }
+
+    #[test]
+    fn hands_are_told() {
+        let script =
+            "setup 1 0\nLoadStart 1 automatic\nChangeAccess 1 1\nLoadStart 1\nLoadDone 1\nContinue 1\n";
+        let rows = walk(script).unwrap();
+        let port = "port 1: TRANSFER BLOCKED, AUTO";
+        assert_eq!(rows[0], "| LoadStart(1, automatic) | `13  none` | as before |");
+        assert_eq!(
+            rows[2..],
+            [
+                format!("| LoadStart(1, manual) | `0  1 1 1>3; 9 1 0>1` | {port}, loading, alarm on |"),
+                format!("| LoadDone(1) | `0  none` | {port}, loading, alarm on, pod held |"),
+                format!("| Continue(1) | `0  9 1 1>0` | {port}, pod, tag unread |"),
+            ]
+        );
+        assert_eq!(walk("setup 1 0\nLoadStart 1 hand").unwrap_err(), "line 2: not an input by name");
     }
 
     #[test]

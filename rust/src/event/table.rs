@@ -4,7 +4,7 @@ use crate::Model;
 
 /// Every report that a run can give, by input and then by model.
 #[rustfmt::skip]
-pub const EVENTS: [Event; 126] = [
+pub const EVENTS: [Event; 132] = [
     event(1, Model::Reservation, 0, 1, &[2], &[2], ""),
     event(1, Model::Tie, 0, 1, &[2], &[2], ""),
     event(1, Model::Id, 0, 1, &[1, 2], &[2], "#1 requires no event"),
@@ -56,7 +56,9 @@ pub const EVENTS: [Event; 126] = [
     event(12, Model::Reservation, 1, 0, &[3], &[3], ""),
     event(13, Model::Transfer, 1, 3, &[6], &[6], ""),
     event(13, Model::Reservation, 1, 0, &[3], &[3], "the carrier begins to arrive (N55)"),
+    event(13, Model::Alarm, 0, 1, &[], &[], "alarm set, by a hand at a port in AUTO: the equipment sends it with its own ALID (N158)"),
     event(15, Model::Transfer, 3, 1, &[10, 5], &[10, 5], ""),
+    event(15, Model::Alarm, 1, 0, &[], &[], "alarm cleared: the pod was taken off again, or the load failed"),
     event(16, Model::Tie, 0, 1, &[2], &[2], ""),
     event(16, Model::Tie, 1, 1, &[4], &[4], ""),
     event(16, Model::Id, 0, 2, &[1, 3], &[3], "#1 requires no event"),
@@ -72,6 +74,7 @@ pub const EVENTS: [Event; 126] = [
     event(17, Model::Id, 1, 2, &[7], &[7], "the reader was there and failed; without a reader it is #10 (N39)"),
     event(18, Model::Transfer, 3, 1, &[8], &[8], ""),
     event(18, Model::Tie, 1, 0, &[3], &[3], ""),
+    event(18, Model::Alarm, 1, 0, &[], &[], "alarm cleared: the port is READY TO LOAD (N155)"),
     event(20, Model::Slot, 1, 2, &[14], &[14], ""),
     event(20, Model::Slot, 1, 3, &[13], &[13], ""),
     event(21, Model::Accessing, 1, 2, &[18], &[18], ""),
@@ -83,6 +86,7 @@ pub const EVENTS: [Event; 126] = [
     event(23, Model::Prediction, 4, 6, &[25], &[25], ""),
     event(23, Model::Prediction, 5, 6, &[29], &[29], ""),
     event(24, Model::Transfer, 2, 3, &[7], &[7], ""),
+    event(24, Model::Alarm, 0, 1, &[], &[], "alarm set, by a hand at a port in AUTO: the equipment sends it with its own ALID (N158)"),
     event(25, Model::Transfer, 3, 1, &[8], &[8], ""),
     event(25, Model::Tie, 1, 0, &[3], &[3], ""),
     event(25, Model::Id, 3, 0, &[21], &[21], ""),
@@ -99,6 +103,7 @@ pub const EVENTS: [Event; 126] = [
     event(25, Model::Prediction, 4, 0, &[21], &[], "the same transition as model 5's: one event for the carrier"),
     event(25, Model::Prediction, 5, 0, &[21], &[], "the same transition as model 5's: one event for the carrier"),
     event(25, Model::Prediction, 6, 0, &[21], &[], "the same transition as model 5's: one event for the carrier"),
+    event(25, Model::Alarm, 1, 0, &[], &[], "alarm cleared: the port is READY TO LOAD (N155)"),
     event(26, Model::Transfer, 3, 2, &[10, 5], &[10, 5], ""),
     event(26, Model::Prediction, 4, 6, &[25], &[25], ""),
     event(26, Model::Prediction, 5, 6, &[29], &[29], ""),
@@ -131,4 +136,5 @@ pub const EVENTS: [Event; 126] = [
     event(35, Model::Prediction, 4, 5, &[28], &[28], ""),
     event(35, Model::Prediction, 4, 6, &[25], &[25], ""),
     event(35, Model::Prediction, 5, 6, &[29], &[29], ""),
+    event(36, Model::Alarm, 1, 0, &[], &[], "alarm cleared: the operator lets the pod stay (N157)"),
 ];
