@@ -1,6 +1,6 @@
 /*
- * A firmware loop on Hawsermole: two load ports, no buffer, inputs from a queue, reports to the host, and a prediction
- * of when a carrier is ready to unload. No heap.
+ * A firmware loop on Hawsermole: two load ports, no buffer, inputs from a queue, reports to the host, a pod that a hand
+ * puts where vehicles should, and a prediction of when a carrier is ready to unload. No heap.
  */
 #include <stdio.h>
 #include <string.h>
@@ -24,10 +24,11 @@ static const uint8_t wafers[HM_SLOTS] = {3, 3, 3, 3, 3, 3, 3, 3, 3, 3, 3, 3, 3, 
  * What host, sensors and tag reader would put in: document 01's run to check by hand, and then a carrier whose slot map
  * the host knows. It comes with Bind as the expected map, the slot map read is equal to it, and so AD may be accessed
  * without asking the host. Where one slot differs, or where no map is expected as for AC, the host is asked.
+ * Port 2 is in AUTO, and somebody puts AD there by hand: the alarm is on, and the pod is held until Continue.
  */
 static const struct input queue[] = {
     {"Bind(1, AB)", HM_INPUT_BIND, 1, 0, "AB", PLAIN},
-    {"LoadStart(1)", HM_INPUT_LOAD_START, 1, 0, "", PLAIN},
+    {"LoadStart(1, manual)", HM_INPUT_LOAD_START, 1, HM_START_MANUAL, "", PLAIN},
     {"LoadDone(1)", HM_INPUT_LOAD_DONE, 1, 0, "", PLAIN},
     {"IdRead(1, AC)", HM_INPUT_ID_READ, 1, 0, "AC", PLAIN},
     {"Open(AC)", HM_INPUT_OPEN, 0, 0, "AC", PLAIN},
@@ -39,9 +40,11 @@ static const struct input queue[] = {
     {"AccessStart(AC)", HM_INPUT_ACCESS_START, 0, 0, "AC", PLAIN},
     {"CancelCarrier(AC, 0)", HM_INPUT_CANCEL_CARRIER, 0, 0, "AC", PLAIN},
 
+    {"ChangeAccess(2, AUTO)", HM_INPUT_CHANGE_ACCESS, 2, HM_ACCESS_AUTO, "", PLAIN},
     {"Bind(2, AD, 25 threes)", HM_INPUT_BIND, 2, 0, "AD", wafers, sizeof wafers},
-    {"LoadStart(2)", HM_INPUT_LOAD_START, 2, 0, "", PLAIN},
+    {"LoadStart(2, manual)", HM_INPUT_LOAD_START, 2, HM_START_MANUAL, "", PLAIN},
     {"LoadDone(2)", HM_INPUT_LOAD_DONE, 2, 0, "", PLAIN},
+    {"Continue(2)", HM_INPUT_CONTINUE, 2, 0, "", PLAIN},
     {"IdRead(2, AD)", HM_INPUT_ID_READ, 2, 0, "AD", PLAIN},
     {"Open(AD)", HM_INPUT_OPEN, 0, 0, "AD", PLAIN},
     {"SlotMap(AD, 25 threes)", HM_INPUT_SLOT_MAP, 0, 0, "AD", wafers, sizeof wafers},
@@ -58,10 +61,10 @@ static hm_tool tool;       /* the tool that the firmware runs */
 static hm_tool kept;       /* its last good copy: battery-backed memory with a checksum in a real controller */
 static hm_reports reports;
 
-/* A real controller sends an event to the host here. */
+/* A real controller sends an event to the host here, and of HM_MODEL_ALARM its alarm. */
 static void tell(const hm_report *r)
 {
-    if (r->model <= HM_MODEL_TIE) {
+    if (r->port != 0) {
         printf("    port %u", r->port);
     } else {
         printf("    carrier %.*s", HM_NAME_BYTES, (const char *)r->name); /* not ended by a zero at 16 bytes */
@@ -107,8 +110,15 @@ static int answered(const char *text, uint32_t answer)
 
 static int feed(const struct input *in)
 {
-    return answered(in->text, hm_step(&tool, &reports, in->number, in->port, in->value, (const uint8_t *)in->name,
-                                      strlen(in->name), in->codes, in->codes_length));
+    const uint32_t answer = hm_step(&tool, &reports, in->number, in->port, in->value, (const uint8_t *)in->name,
+                                    strlen(in->name), in->codes, in->codes_length);
+    const int accepted = answered(in->text, answer);
+
+    if (accepted && in->number == HM_INPUT_LOAD_DONE && tool.hands[in->port - 1].held == HM_HELD) {
+        /* A panel asks here: HM_INPUT_CONTINUE if the pod stays, HM_INPUT_LOAD_FAIL once it is taken off again. */
+        printf("    a hand put it there, and the port is for vehicles: it is held\n");
+    }
+    return accepted;
 }
 
 /* An input that brings the clock: a real controller gives HM_INPUT_CLOCK every second, with its seconds since start. */

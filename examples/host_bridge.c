@@ -59,7 +59,7 @@ static void tell(uint32_t number)
     unsigned i;
     for (i = 0; i < reports.count; i++) {
         const hm_report *r = &reports.items[i];
-        if (r->model <= HM_MODEL_TIE) {
+        if (r->port != 0) {
             printf("    model %u, port %u: %u to %u", r->model, r->port, r->old_state, r->new_state);
         } else {
             printf("    model %u, carrier %.*s: %u to %u", r->model, HM_NAME_BYTES, (const char *)r->name,

@@ -107,6 +107,22 @@ static void check_prediction(void)
     CHECK(event != NULL && event->table == 7 && event->events[0] == 27);
 }
 
+/* A hand at a port in AUTO: an alarm is set, which is no transition, beside one that is; and cleared. */
+static void check_alarm(void)
+{
+    hm_tool tool;
+    hm_reports reports;
+    const hm_event *event;
+
+    CHECK(hm_setup(&tool, 1, 0, 0, 0) == HM_ACCEPTED);
+    CHECK(give(&tool, &reports, HM_INPUT_CHANGE_ACCESS, 1, HM_ACCESS_AUTO, "") == HM_ACCEPTED);
+    check_step(&tool, HM_INPUT_LOAD_START, 1, "", 6, 0);
+    CHECK(give(&tool, &reports, HM_INPUT_LOAD_DONE, 1, 0, "") == HM_ACCEPTED && reports.count == 0);
+    CHECK(give(&tool, &reports, HM_INPUT_CONTINUE, 1, 0, "") == HM_ACCEPTED && reports.count == 1);
+    event = hm_event_of(HM_INPUT_CONTINUE, &reports.items[0]);
+    CHECK(event != NULL && event->model == HM_MODEL_ALARM && event->table == 38 && event->events[0] == 0);
+}
+
 int main(int count, char **words)
 {
     if (count != 2) {
@@ -116,5 +132,6 @@ int main(int count, char **words)
     check_table(words[1]);
     check_steps();
     check_prediction();
+    check_alarm();
     return result("events");
 }
