@@ -176,6 +176,30 @@ static void no_predictions(void)
     CHECK(is_judged(told, sizeof told, HM_LOG_ENTRY_DISAGREES, 3, last, HM_ACCEPTED));
 }
 
+/* Nor does it ask who starts: in MANUAL and in AUTO the second number of LoadStart may be any, no alarm is told, no pod
+   is held, 36 is no input, and 13 no answer. */
+static void no_hands(void)
+{
+    static const uint8_t told[] = {
+        'C', 'M', 'T', 0, 1, 1, 0,
+        HM_INPUT_LOAD_START, 1, HM_START_AUTOMATIC, 0, 0, 1, 1, 1, 1, 3,
+        HM_INPUT_LOAD_FAIL, 1, 0, 0, 0, 1, 1, 1, 3, 1,
+        HM_INPUT_CHANGE_ACCESS, 1, HM_ACCESS_AUTO, 0, 0, 1, 2, 1, 0, 1,
+        HM_INPUT_LOAD_START, 1, 255, 0, 0, 1, 1, 1, 1, 3,
+        HM_INPUT_LOAD_FAIL, 1, 0, 0, 0, 1, 1, 1, 3, 1,
+        HM_INPUT_LOAD_START, 1, HM_START_MANUAL, 0, 0, 1, 1, 1, 1, 3,
+        HM_INPUT_CONTINUE, 1, 0, 0, HM_REFUSED_OUT_OF_RANGE, 0,
+        HM_INPUT_LOAD_DONE, 1, 0, 0, 0, 0,
+        HM_INPUT_ID_READ_FAILED, 1, 0, 0, 0, 0,
+        HM_INPUT_UNLOAD_START, 1, HM_START_AUTOMATIC, 0, HM_REFUSED_AUTOMATIC_IN_MANUAL, 0,
+    };
+    const size_t last = sizeof told - 6;
+
+    CHECK(is_judged(told, last, HM_LOG_AGREES, 9, last, HM_ACCEPTED));
+    CHECK(tool.ports[0].pod == HM_POD_PRESENT && tool.ports[0].tag == HM_TAG_FAILED);
+    CHECK(is_judged(told, sizeof told, HM_LOG_ENTRY_DISAGREES, 9, last, HM_REFUSED_CONDITIONS));
+}
+
 static size_t entry_of(size_t at)
 {
     size_t entry = 0;
@@ -228,6 +252,7 @@ int main(void)
     no_request();
     no_queue();
     no_predictions();
+    no_hands();
     cut_at_every_place();
     changed_at_every_place();
     return result("judge");
