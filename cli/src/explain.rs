@@ -66,7 +66,8 @@ pub fn waiting(tool: &Tool, Waiting { first, read }: Waiting) -> String {
 
 /// A line for the input, one for the name that was used where another text was sent, one for the answer; for a refusal
 /// its causes with what to do about each; one for each report, for what a slot map was compared with, for each
-/// change of the queue and of the predictions' times, and for a hand on an AUTO port. The tools are those before and after.
+/// change of the queue and of the predictions' times, and for a hand on an AUTO port. The tools are those before and
+/// after.
 pub fn answer(before: &Tool, after: &Tool, parts: &Parts, given: &Answer) -> String {
     let row = Row::numbered(parts.number);
     let input = parts.to_string();
@@ -342,7 +343,8 @@ mod tests {
             "refused, 2: the name has no record\n  because the name has no record: AB\n  next: host: check";
         assert!(unknown.starts_with(&format!("  Open(AB): open a carrier\n  {no_record}")), "{unknown}");
         let early = explained(&mut tool, Input::LoadDone { port: 1 });
-        let conditions = "refused, 5: the row's conditions on state don't hold\n  needed: the port loading, and no pod held there\n";
+        let conditions = "refused, 5: the row's conditions on state don't hold\n  \
+                          needed: the port loading, and no pod held there\n";
         let because =
             "because no pod is being loaded: port 1 is READY TO LOAD, idle\n  next: LoadStart comes first.";
         assert!(

@@ -155,6 +155,13 @@ fn of_row(at: &Standing) -> Grounds {
         23 => at.with_record(|c| [at.not_closed(c), at.not_in_access(c)].into()),
         row::UNLOAD_START => [at.ready_to_unload(), at.for_hands()].into(),
         25 | 26 => [at.unloading()].into(),
+        _ => of_request(at),
+    }
+}
+
+/// The same of a row that a request has added.
+fn of_request(at: &Standing) -> Grounds {
+    match at.number() {
         row::OUT_START => {
             [at.reserved(), at.tied(), at.ready_to_load()].into_iter().chain(at.to_take()).collect()
         }

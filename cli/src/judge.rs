@@ -278,8 +278,8 @@ mod tests {
         assert_eq!(answer(20), "answer 20: no answer of document 01");
     }
 
-    /// CarrierOut, LoadStart and UnloadStart are told as document 01 has them, and so is a number that a request has given a
-    /// row.
+    /// CarrierOut, LoadStart and UnloadStart are told as document 01 has them, and so is a number that a request has
+    /// given a row.
     #[test]
     fn inputs_are_document_01s() {
         let told = |script: &str| {

@@ -130,8 +130,8 @@ fn write_guesses<'a>(log: &mut Vec<u8>, mut tool: Tool, inputs: impl Iterator<It
     }
 }
 
-/// What document 01 will give, by the whole tool: its answer but for CarrierOut, and 1 to the rows of requests; no models
-/// 8 and 9. Who starts to load or unload is whom the port is for, as document 01 doesn't ask.
+/// What document 01 will give, by the whole tool: its answer but for CarrierOut, and 1 to the rows of requests; no
+/// models 8 and 9. Who starts to load or unload is whom the port is for, as document 01 doesn't ask.
 fn guess(tool: &mut Tool, sent: &Sent) -> (u8, Vec<Report>) {
     let given = match sent.number {
         row::CARRIER_OUT => return moved(tool, sent),
@@ -232,7 +232,7 @@ pub mod tests {
         assert_eq!(judge(&log(&many), &mut Tool::none()), Verdict::Agrees { entries: 101 });
     }
 
-    /// Who starts is written as it is sent, and nobody asks: no alarm, no pod that is held, no refusal; at the first try.
+    /// Who starts is written as it is sent, and nobody asks: no alarm, no held pod, no refusal; and at the first try.
     #[test]
     fn no_hands_reach_a_log() {
         let unload = "LoadStart 1 manual\nLoadDone 1\nIdRead 1 A\nCancelCarrier A 1\nUnloadStart 1 manual\n\

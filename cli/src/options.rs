@@ -136,7 +136,8 @@ judge judges FILE, the log of another maker's tool, by document 01 before any re
 agrees, entry K, the first that disagrees, from 0, or refused N; the status is 0, 1 or 2. Before it stand,
 side by side, what that entry shows and what document 01 gives. log writes such a log of SCRIPT, a set-up
 and document 01's inputs alone, with its answers (CarrierOut moves the carrier at once, and nobody asks
-who starts to load), to FILE or standard output. A file whose name is one of these two words is played as ./judge or after --.
+who starts to load), to FILE or standard output. A file whose name is one of these two words is played
+as ./judge or after --.
 
 A script has one command on each line, its words apart by spaces or tabs. An empty line, and one that
 begins with #, prints nothing.

@@ -131,8 +131,8 @@ const PREDICTIONS: usize = 3092;
 /// Where the ports' alarms stand, two bytes each.
 const HANDS: usize = 3488;
 
-/// The bytes of a tool that its ports with their alarms, its times, its first few records with their predictions and its
-/// first few requests use.
+/// The bytes of a tool that its ports with their alarms, its times, its first few records with their predictions and
+/// its first few requests use.
 fn key(tool: &Tool) -> Vec<u8> {
     let bytes = tool.as_bytes();
     let requests = [&bytes[1891..1966], &bytes[QUEUE..QUEUE + 55], &bytes[CLOCK..PREDICTIONS + 33]].concat();

@@ -1,5 +1,5 @@
-//! Why a tool isn't sound: the first clause of document 01's list and the requests' P5, P7 and P9 that doesn't hold, and
-//! where it doesn't. Whether a tool is sound is the archive's to say.
+//! Why a tool isn't sound: the first clause of document 01's list and the requests' P5, P7 and P9 that doesn't hold,
+//! and where it doesn't. Whether a tool is sound is the archive's to say.
 use crate::fields::{out_of_range, unused};
 use crate::numbers::{movement, place, transfer, MOST_EXPECTED};
 use hawsermole::{words, Carrier, Port, Tool};

@@ -1,4 +1,5 @@
-//! Words of a line and what they stand for: numbers, who starts, names, codes, wafers. Nothing is cut and nothing is guessed.
+//! Words of a line and what they stand for: numbers, who starts, names, codes, wafers. Nothing is cut and nothing is
+//! guessed.
 use hawsermole::states::Start;
 use hawsermole::Wafer;
 

@@ -6,8 +6,8 @@ use crate::states::Start;
 use crate::wafer::Wafer;
 use core::fmt;
 
-/// One input: document 01's 26 rows, four each of the requests P5 and P7 and one each of P8 and P9, with their arguments
-/// in the documents' order. Rows 1 and 3 have two cases each, without an expected map and with one.
+/// One input: document 01's 26 rows, four each of the requests P5 and P7 and one each of P8 and P9, with their
+/// arguments in the documents' order. Rows 1 and 3 have two cases each, without an expected map and with one.
 ///
 /// A port, place or value is any 32-bit number, a name and codes are any bytes of any length:
 /// what is outside its range is answered with [`Refusal::OutOfRange`](crate::Refusal::OutOfRange), not cut.

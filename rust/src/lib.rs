@@ -7,8 +7,9 @@
 //! changed and [`Event`] which transitions of E87 that is, an [`ExpectedMap`] lets the tool judge a slot map that the
 //! host knows beforehand, [`Name::in_text`] tells which name a tag reader's text has without the blanks at its end,
 //! [`Tool::requests`] are the requests of CarrierOut that wait for their port, [`Tool::predictions`] tell when carriers
-//! are ready to unload, [`Tool::hands`] where somebody put a hand on a port in AUTO, [`Tool::secs_step`] takes a host's S3F17 as it came, and [`Tool::secs_exchange`] writes the
-//! S3F18 that answers it, too. [`states`] has every state by E87's word.
+//! are ready to unload, [`Tool::hands`] where somebody put a hand on a port in AUTO, [`Tool::secs_step`] takes a host's
+//! S3F17 as it came, and [`Tool::secs_exchange`] writes the S3F18 that answers it, too. [`states`] has every state by
+//! E87's word.
 //!
 //! ```
 //! use hawsermole::{Input, Model, Refusal, Subject, Tool};

@@ -2,8 +2,8 @@
 use core::fmt;
 
 /// Why an input was refused: document 01's eight reasons, the two of request P5 and one each of requests P7, P8 and P9,
-/// of which the lowest that applies is given; or why a message was, by request P3: the first that its reading meets, and
-/// the lowest at one item; or that a reply had no room, by request P13.
+/// of which the lowest that applies is given; or why a message was, by request P3: the first that its reading meets,
+/// and the lowest at one item; or that a reply had no room, by request P13.
 ///
 /// ```
 /// use hawsermole::{Input, Refusal, Tool};

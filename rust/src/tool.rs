@@ -124,8 +124,8 @@ impl Tool {
 
     /// The tool's bytes: ports, places, records; 4 ports of 22 bytes; 36 carriers of 50 bytes; their 36 expected
     /// maps of 25 bytes; the number of requests queued, and 16 of them of 18 bytes; clock, setting time and timeout of 4
-    /// bytes each, the low one first; the carriers' 36 predictions of 11 bytes; alarm and held of the 4 ports, of a byte each;
-    /// 286 bytes that are zero.
+    /// bytes each, the low one first; the carriers' 36 predictions of 11 bytes; alarm and held of the 4 ports, a byte
+    /// each; 286 bytes that are zero.
     pub const fn as_bytes(&self) -> &[u8; TOOL_BYTES] {
         &self.bytes
     }

@@ -43,7 +43,7 @@ written() {
     done
 }
 
-# In AUTO and MANUAL, by hand and by a vehicle: document 01 doesn't ask who starts, so that all loads are the same there.
+# In AUTO and MANUAL, by hand and by a vehicle: document 01 doesn't ask who starts, and all loads are the same there.
 hands_in_logs() {
     for access in 0 1; do
         for start in manual automatic; do

@@ -289,8 +289,9 @@ hands() {
     } | play --check
     outcome "load of a held pod, with what is expected"
     { head -c 3488 "$saved"; printf '\000'; tail -c +3490 "$saved"; } >"$work/damaged"
-    held='a held port is loading with its alarm on (port 1 is TRANSFER BLOCKED, loading, with its alarm off and a pod held)'
-    printf 'load unsound, not so: %s\n1  none\n' "$held" | want 0
+    held='a held port is loading with its alarm on'
+    where='port 1 is TRANSFER BLOCKED, loading, with its alarm off and a pod held'
+    printf 'load unsound, not so: %s (%s)\n1  none\n' "$held" "$where" | want 0
     { echo "load $work/damaged"; echo 'Continue 1'; } | play
     outcome "load of a pod that is held without an alarm"
 }
