@@ -38,6 +38,7 @@
  *   the thing is done, and its reports are passed on no earlier. HM_INPUT_CANCEL_CARRIER closes an open pod's record at
  *   once: another may be opened, its port is READY TO UNLOAD. Shut the pod first (ask a copy of the tool before that);
  *   docs/MANUAL.md, "Where the record is ahead", has every such input.
+ * - HM_INPUT_LOAD_START and HM_INPUT_UNLOAD_START say who moves the pod as it is: the library sees no hand.
  * - HM_STACK_BYTES of stack are free for each call.
  * - The program is for the archive's target: x86-64 Linux, System V ABI, or one of the boards that `make board` names.
  *   An archive uses no heap and no file, and needs from the C library memcpy, memset and memcmp at most; on a board,
