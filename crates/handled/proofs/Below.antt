@@ -1,5 +1,5 @@
 -- An input below, and then the alarms: what is left is what the definitions give.
-use Prim.Native.Nat.{ℕ, _+_, _≤_}
+use Prim.Native.Nat.{ℕ, _+_}
 use native.Mathlib.Omega.{arith}
 use mathlib.Core.Path.{_≡_, refl, ap, ap₂, sym, _∙_}
 use mathlib.Core.Logic.{_≢_}
@@ -7,10 +7,9 @@ use mathlib.Core.Bool.{Bool, true, false, cond}
 use mathlib.Core.List.{List, [], _∷_, _++_}
 use lib.ListN.{length, length-set, getD, set}
 use lib.Dec.{eqb}
-use borrow.Author.Tests.{eqb-true, eq-eqb, ne-eqb}
+use borrow.Author.Tests.{eq-eqb, ne-eqb}
 use Rattle.lists.specs.Lists.{fill}
 use Rattle.lists.proofs.Bools.{clash}
-use Rattle.rules.specs.declared.report.Report.{Report}
 use Rattle.rules.specs.declared.report.Reports.{Reports}
 use Rattle.records.specs.Ports.{noPort}
 use Rattle.rules.specs.State as base
@@ -27,10 +26,9 @@ use Rattle.queue.specs.State as queue
 use Rattle.prediction.specs.State as prediction
 use Rattle.prediction.specs.State.{Predicted, PredictedTool}
 use Rattle.prediction.specs.Outcome as below
-use Rattle.times.specs.Bytes.{predictionStart, predictionsFrom, timesFrom}
+use Rattle.times.specs.Bytes.{predictionStart, predictionsFrom}
 use Rattle.times.proofs.Written.{prediction-same}
 use Rattle.times.proofs.Kept.{times-before}
-use Rattle.queued.specs.Bytes.{queuedIn}
 use Rattle.predicted.specs.Bytes.{predictedIn}
 use Rattle.predicted.proofs.Clocked.{queued-same}
 use Rattle.predicted.proofs.Held as predicted
@@ -40,13 +38,13 @@ use Rattle.wafers.specs.Outcome as wafers
 use Rattle.wafers.specs.Outcome.{Brought}
 use Rattle.hands.specs.declared.alarm.Alarm.{Alarm}
 use Rattle.hands.specs.Alarms.{noAlarm}
-use Rattle.hands.specs.State.{Handled, baseOf, HandledTool, stateOf, inTool}
+use Rattle.hands.specs.State.{Handled, baseOf, stateOf, inTool}
 use Rattle.hands.specs.Sound.{soundTool}
 use Rattle.hands.specs.Outcome.{Given, refused, accepted, allSettled, alarmsTold}
 use Rattle.hands.proofs.Settled.{settled-long}
 use Rattle.hands.proofs.Below.{ports-stay}
 use Rattle.handled.specs.Bytes.{alarmsFrom, handledIn, left}
-use Rattle.handled.specs.Passing.{NoneElsewhere, alarmsAfter, passedTo, passedIn}
+use Rattle.handled.specs.Passing.{NoneElsewhere, alarmsAfter, passedIn}
 use Rattle.handled.proofs.Laid.{alarms-same}
 use Rattle.handled.proofs.Held.{usedIn, below-is, none-after, used-long, ports-long, held}
 use Rattle.handled.proofs.Tables.{set-fill, settled-fill, told-fill}

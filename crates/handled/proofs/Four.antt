@@ -2,7 +2,7 @@
 use Prim.Native.Nat.{ℕ, zero, suc, _-_}
 use native.Mathlib.Omega.{arith}
 use mathlib.Core.Path.{_≡_, refl, ap, ap₂, sym, _∙_}
-use mathlib.Core.Bool.{Bool, true, false, cond}
+use mathlib.Core.Bool.{cond}
 use mathlib.Core.List.{List, [], _∷_, _++_, append-assoc, append-nil}
 use lib.ListN.{length, getD, set}
 use lib.Dec.{eqb}
@@ -15,7 +15,7 @@ use Rattle.rules.specs.State.{spotOf, portAt}
 use Rattle.parts.specs.Told.{noteAll}
 use Rattle.predicted.proofs.Movers.{noted-twice}
 use Rattle.hands.specs.declared.alarm.Alarm.{Alarm}
-use Rattle.hands.specs.Alarms.{noAlarm, settled}
+use Rattle.hands.specs.Alarms.{noAlarm}
 use Rattle.hands.specs.Outcome.{allSettled, alarmChange, alarmsTold}
 use Rattle.handled.specs.Settling.{settledAt, settledTable}
 

@@ -1,8 +1,8 @@
 -- What the bytes of a sound tool hold.
 use Prim.Native.Nat.{ℕ, _≤_}
 use native.Mathlib.Omega.{arith}
-use mathlib.Core.Path.{_≡_, refl, ap, sym, _∙_}
-use mathlib.Core.Bool.{Bool, true, _&&_}
+use mathlib.Core.Path.{_≡_, ap, _∙_}
+use mathlib.Core.Bool.{true, _&&_}
 use mathlib.Core.List.{List, []}
 use lib.ListN.{length, getD, take, drop, List·getD-eq-default}
 use lib.Seq.{length-take-le}
@@ -12,7 +12,6 @@ use Rattle.lists.specs.Lists.{every, fill}
 use Rattle.lists.proofs.Bools.{and-l, and-r, and-i}
 use Rattle.lists.proofs.Tables.{tail-is, getD-fill}
 use Rattle.rules.specs.declared.tool.Tool.{Tool}
-use Rattle.rules.specs.State as base
 use Rattle.rules.specs.State.{spotOf, portAt, portOf}
 use Rattle.rules.specs.Seen.{Input, narrow, see}
 use Rattle.rules.specs.Held.{Held}

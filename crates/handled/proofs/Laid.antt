@@ -1,5 +1,5 @@
 -- The alarms in the bytes: one by one, written, and where no byte of theirs is.
-use Prim.Native.Nat.{ℕ, _+_, _*_, _<_, _≤_}
+use Prim.Native.Nat.{ℕ, _+_, _<_, _≤_}
 use native.Mathlib.Omega.{arith}
 use mathlib.Core.Path.{_≡_, refl, ap, sym, _∙_}
 use mathlib.Core.Logic.{_≢_}
@@ -12,7 +12,6 @@ use borrow.Author.Tests.{ltb-true, ltb-false}
 use Rattle.image.specs.Image.{byteAt}
 use Rattle.image.proofs.Table.{getD-table, length-table, table-same, table-set}
 use Rattle.image.proofs.Written.{before-stays, after-stays, stands-there}
-use Rattle.follow.specs.Follow.{KeptOutside}
 use Rattle.hands.specs.declared.alarm.Alarm.{Alarm}
 use Rattle.hands.specs.Alarms.{noAlarm}
 use Rattle.handled.specs.Bytes.{alarmStart, alarmFrom, alarmsFrom}

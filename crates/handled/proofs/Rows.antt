@@ -3,7 +3,7 @@ use Prim.Native.Nat.{ℕ}
 use native.Mathlib.Omega.{arith}
 use mathlib.Core.Path.{_≡_, refl, ap, ap₂, sym, _∙_}
 use mathlib.Core.Logic.{_≢_}
-use mathlib.Core.Bool.{Bool, true, false, not, cond, _&&_, _||_}
+use mathlib.Core.Bool.{Bool, true, false, cond, _&&_, _||_}
 use mathlib.Core.List.{List, [], _∷_, _++_}
 use lib.ListN.{set}
 use lib.Dec.{eqb, leb}
@@ -22,8 +22,6 @@ use Rattle.maps.specs.Projection as maps-runs
 use Rattle.queue.specs.Requests.{startedTo}
 use Rattle.queue.specs.Rows as queue-rows
 use Rattle.queue.specs.Outcome as queue
-use Rattle.prediction.specs.State as prediction-state
-use Rattle.prediction.specs.State.{Predicted}
 use Rattle.prediction.specs.Outcome as prediction
 use Rattle.wafers.specs.Outcome as wafers
 use Rattle.wafers.specs.Outcome.{Brought}

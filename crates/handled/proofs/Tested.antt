@@ -1,7 +1,7 @@
 -- The alarms tested port by port are the alarms of a sound tool.
 use Prim.Native.Nat.{ℕ, zero, suc, _≤_}
 use native.Mathlib.Omega.{arith}
-use mathlib.Core.Path.{_≡_, refl, ap, ap₂, sym, _∙_}
+use mathlib.Core.Path.{_≡_, refl, ap, sym, _∙_}
 use mathlib.Core.Bool.{Bool, true, false, cond, _&&_}
 use mathlib.Core.List.{List, [], _∷_}
 use lib.ListN.{length, getD, take, drop}
@@ -9,21 +9,16 @@ use lib.Dec.{leb}
 use Rattle.lists.specs.Lists.{every}
 use Rattle.times.proofs.Fitting.{and-true}
 use Rattle.records.specs.declared.port.Port.{Port}
-use Rattle.records.specs.Ports.{noPort}
 use Rattle.rules.specs.declared.tool.Tool.{Tool}
-use Rattle.rules.specs.State.{spotOf, portAt}
-use Rattle.rules.specs.Held.{Held}
+use Rattle.rules.specs.State.{portAt}
 use Rattle.image.specs.Image.{toolFrom}
 use Rattle.image.proofs.Laid.{ports-long}
 use Rattle.mapped.specs.Bytes.{ownIn}
 use Rattle.prediction.specs.Sound as prediction
-use Rattle.prediction.specs.State as prediction-state
 use Rattle.prediction.proofs.SoundTools.{tool-sound}
 use Rattle.predicted.specs.Bytes.{predictedIn}
 use Rattle.predicted.proofs.Held as predicted
 use Rattle.hands.specs.declared.alarm.Alarm.{Alarm}
-use Rattle.hands.specs.Alarms.{noAlarm}
-use Rattle.hands.specs.State.{stateOf}
 use Rattle.hands.specs.Sound.{agrees, eachAgrees, sound, isNone, soundTool}
 use Rattle.handled.specs.Bytes.{alarmsFrom, handledIn}
 use Rattle.handled.specs.Tests.{soundAt, soundAlarms}

@@ -4,12 +4,9 @@ use mathlib.Core.Path.{_≡_, refl, ap, sym, _∙_}
 use mathlib.Core.Bool.{Bool, true, false, cond}
 use mathlib.Core.List.{List, [], _∷_}
 use lib.Dec.{eqb}
-use borrow.Author.Tests.{eqb-true}
 use Rattle.lists.proofs.Bools.{clash}
 use Rattle.records.specs.Names.{isName}
-use Rattle.rules.specs.declared.report.Report.{Report}
 use Rattle.rules.specs.declared.row.Seen.{Seen}
-use Rattle.rules.specs.State.{portOf}
 use Rattle.rules.specs.Seen.{narrow, see}
 use Rattle.rules.specs.Row.{lower, lowest}
 use Rattle.rules.specs.Named as base

@@ -1,17 +1,15 @@
 -- Demand 3: P7's, read through the run cut down.
 use Prim.Native.Nat.{ℕ, _+_, _≤_}
-use native.Mathlib.Omega.{arith}
 use mathlib.Core.Path.{_≡_, refl, ap, sym, subst, _∙_}
 use mathlib.Core.Bool.{Bool, true, false, cond, _&&_}
 use mathlib.Core.List.{List, [], _∷_, _++_}
 use lib.ListN.{length}
 use lib.Dec.{eqb}
-use borrow.Author.Tests.{eqb-true, ne-eqb}
+use borrow.Author.Tests.{eqb-true}
 use Rattle.lists.proofs.Bools.{clash}
 use Rattle.records.specs.declared.name.Name.{Name}
 use Rattle.rules.specs.State.{State, recordOf}
 use Rattle.rules.specs.Seen.{narrow, see, isNamed}
-use Rattle.rules.specs.Row.{lower, lowest}
 use Rattle.rules.specs.History.{Event, isLive, history}
 use Rattle.rules.specs.Promise.{Live, Orderly}
 use Rattle.lists.specs.Lists.{any}

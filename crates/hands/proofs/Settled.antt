@@ -1,16 +1,16 @@
 -- What ports settle agrees with them.
-use Prim.Native.Nat.{ℕ, zero, suc}
+use Prim.Native.Nat.{suc}
 use native.Mathlib.Omega.{arith}
-use mathlib.Core.Path.{_≡_, refl, ap, sym, _∙_}
+use mathlib.Core.Path.{_≡_, refl, ap}
 use mathlib.Core.Bool.{Bool, true, false, not, cond, _&&_, _||_}
 use mathlib.Core.List.{List, [], _∷_}
-use lib.ListN.{length, getD, set}
+use lib.ListN.{length}
 use lib.Dec.{eqb, leb}
-use borrow.Author.Tests.{eqb-true, ne-eqb}
+use borrow.Author.Tests.{eqb-true}
 use Rattle.lists.specs.Lists.{every}
 use Rattle.lists.proofs.Bools.{clash, and-l, and-r, and-i}
 use Rattle.records.specs.declared.port.Port.{Port}
-use Rattle.records.specs.Ports.{readyToLoad, loading, idle, blocked, hasPod}
+use Rattle.records.specs.Ports.{readyToLoad, loading, idle, blocked}
 use Rattle.rules.specs.Sound.{portAgrees}
 use Rattle.hands.specs.declared.alarm.Alarm.{Alarm}
 use Rattle.hands.specs.Alarms.{noAlarm, isOn, isHeld, settled}

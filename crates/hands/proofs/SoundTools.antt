@@ -3,7 +3,7 @@ use Prim.Native.Nat.{ℕ, zero, suc, _≤_}
 use native.Mathlib.Omega.{arith}
 use mathlib.Core.Path.{_≡_, refl, ap, ap₂, sym, subst, _∙_}
 use mathlib.Core.Bool.{Bool, true, false, cond, _&&_}
-use mathlib.Core.List.{List, [], _∷_}
+use mathlib.Core.List.{_∷_}
 use lib.ListN.{length, length-replicate, take, drop, replicate}
 use lib.Seq.{take-all}
 use lib.Dec.{eqb, leb}
@@ -23,7 +23,6 @@ use Rattle.prediction.specs.Sound as prediction-sound
 use Rattle.prediction.specs.Sound.{isSpan}
 use Rattle.prediction.proofs.SoundTools as prediction-tools
 use Rattle.wafers.specs.Outcome.{Brought}
-use Rattle.hands.specs.declared.alarm.Alarm.{Alarm}
 use Rattle.hands.specs.Alarms.{noAlarm}
 use Rattle.hands.specs.State.{Handled, baseOf, HandledTool, usedOf, stateOf, inTool, start, noAlarms}
 use Rattle.hands.specs.Sound.{agrees, eachAgrees, sound, isNone, soundTool}

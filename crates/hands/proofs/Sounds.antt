@@ -3,24 +3,21 @@ use Prim.Native.Nat.{ℕ, zero, suc}
 use mathlib.Core.Path.{_≡_, refl, ap, sym, _∙_}
 use mathlib.Core.Bool.{Bool, true, false, not, cond, _&&_, _||_}
 use mathlib.Core.List.{List, [], _∷_}
-use lib.ListN.{length, length-set, getD, set}
+use lib.ListN.{length-set, getD, set}
 use lib.Dec.{eqb, leb}
 use Rattle.lists.specs.Lists.{every, everyTwo}
-use Rattle.lists.proofs.Bools.{clash, and-l, and-r, and-i}
+use Rattle.lists.proofs.Bools.{and-l, and-r, and-i}
 use Rattle.records.specs.Ports.{loading}
 use Rattle.rules.specs.declared.row.Seen.{Seen}
 use Rattle.rules.specs.State as base
-use Rattle.rules.specs.State.{spotOf}
 use Rattle.rules.specs.Sound as base-sound
 use Rattle.rules.specs.Sound.{inRange, otherName, tiesAgree, placeAgrees, otherSpot, fewExpected, portAgrees}
-use Rattle.rules.specs.Seen.{narrow, see}
 use Rattle.maps.proofs.SoundRuns as maps-runs
 use Rattle.queue.proofs.SoundRuns as queue-runs
 use Rattle.prediction.specs.State as prediction
 use Rattle.prediction.specs.State.{Predicted}
 use Rattle.prediction.specs.Sound as prediction-sound
 use Rattle.prediction.proofs.Sounds.{queue-part, sound-reached}
-use Rattle.wafers.specs.Outcome as wafers
 use Rattle.wafers.specs.Outcome.{Brought}
 use Rattle.wafers.specs.Projection.{cutDown}
 use Rattle.wafers.proofs.Projected as wafers-below

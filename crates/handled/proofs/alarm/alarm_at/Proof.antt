@@ -1,10 +1,8 @@
 use borrow.Author.Needs.{needs}
-use native.Mathlib.Omega.{arith}
-use mathlib.Core.Path.{_≡_, ap, sym, _∙_}
+use mathlib.Core.Path.{ap, sym, _∙_}
 use lib.ListN.{getD}
-use Rattle.rules.specs.State.{spotOf}
 use Rattle.hands.specs.Alarms.{noAlarm}
-use Rattle.handled.specs.Bytes.{alarmFrom, alarmStart, alarmsFrom}
+use Rattle.handled.specs.Bytes.{alarmsFrom}
 use Rattle.handled.proofs.Laid.{alarm-is, alarm-out}
 use Rattle.handled.proofs.alarm.alarm_at.Statement.{statement}
 use Rattle.handled.proofs.alarm.alarm_at.Tie as tie

@@ -1,35 +1,24 @@
 use borrow.Author.Needs.{needs}
 use native.Mathlib.Omega.{arith}
-use Prim.Native.Nat.{ℕ, _≤_}
-use mathlib.Core.Path.{_≡_, refl, ap, ap₂, sym, subst, _∙_}
+use Prim.Native.Nat.{ℕ}
+use mathlib.Core.Path.{_≡_, refl, ap, ap₂, sym, _∙_}
 use mathlib.Core.Logic.{_≢_}
-use mathlib.Core.Bool.{Bool, true, false, cond, _&&_}
+use mathlib.Core.Bool.{Bool, true, false, cond}
 use mathlib.Core.List.{List, []}
-use lib.ListN.{length, getD, set}
-use lib.Dec.{eqb, leb}
+use lib.ListN.{getD}
 use borrow.Author.Tests.{eq-eqb, ne-eqb}
-use Rattle.lists.proofs.Bools.{clash}
-use Rattle.records.specs.Ports.{loading}
-use Rattle.records.specs.declared.port.Port.{Port}
 use Rattle.rules.specs.declared.row.Seen.{Seen}
-use Rattle.rules.specs.State.{spotOf, portAt, portOf}
+use Rattle.rules.specs.State.{spotOf}
 use Rattle.rules.specs.Seen.{inputOf, narrow, see}
-use Rattle.rules.specs.Row.{isChoice}
-use Rattle.image.specs.Image.{toolFrom, reportsFrom}
-use Rattle.parts.specs.Told.{noteAll}
 use Rattle.follow.proofs.Entries.{kept-all}
-use Rattle.line.proofs.Changed.{kept-wider}
 use Rattle.mapped.specs.Bytes.{ownIn}
 use Rattle.prediction.specs.State.{timed}
 use Rattle.wafers.specs.Outcome.{Brought, bringing}
 use Rattle.hands.specs.declared.alarm.Alarm.{Alarm}
-use Rattle.hands.specs.Alarms.{noAlarm, isOn, isHeld, raised, holding}
+use Rattle.hands.specs.Alarms.{noAlarm, isHeld}
 use Rattle.hands.specs.State.{Handled, stateOf, baseOf, alarmOf}
-use Rattle.hands.specs.Outcome.{allSettled, alarmsTold}
 use Rattle.handled.specs.Bytes.{alarmsFrom, handledIn, left}
 use Rattle.handled.specs.Passing.{passedIn}
-use Rattle.hands.specs.Rows.{LoadDone}
-use Rattle.ticks.specs.Wafers.{wafersFrom}
 use Rattle.handled.proofs.Held.{alarm-held, fits-is, refused-is}
 use Rattle.handled.proofs.Rows.{refused-given, nothing-held-answers, continue-given}
 use Rattle.handled.proofs.loads.continue_step.Statement.{statement}

@@ -2,18 +2,17 @@ use borrow.Author.Needs.{needs}
 use native.Mathlib.Omega.{arith}
 use Prim.Native.Nat.{ℕ, _≤_}
 use mathlib.Core.Path.{_≡_, refl, ap, ap₂, sym, subst, _∙_}
-use mathlib.Core.Bool.{Bool, true, false, cond, _&&_}
+use mathlib.Core.Bool.{Bool, true, false, _&&_}
 use mathlib.Core.List.{List, []}
-use lib.ListN.{length, getD, set}
-use lib.Dec.{eqb, leb}
+use lib.ListN.{getD, set}
+use lib.Dec.{eqb}
 use borrow.Author.Tests.{eq-eqb, ne-eqb}
 use Rattle.lists.proofs.Bools.{clash}
 use Rattle.records.specs.Ports.{loading}
 use Rattle.records.specs.declared.port.Port.{Port}
 use Rattle.rules.specs.declared.row.Seen.{Seen}
-use Rattle.rules.specs.State.{spotOf, portAt, portOf}
+use Rattle.rules.specs.State.{spotOf, portAt}
 use Rattle.rules.specs.Seen.{inputOf, narrow, see}
-use Rattle.rules.specs.Row.{isChoice}
 use Rattle.image.specs.Image.{toolFrom, reportsFrom}
 use Rattle.parts.specs.Told.{noteAll}
 use Rattle.follow.proofs.Entries.{kept-all}
@@ -22,7 +21,7 @@ use Rattle.mapped.specs.Bytes.{ownIn}
 use Rattle.prediction.specs.State.{timed}
 use Rattle.wafers.specs.Outcome.{Brought, bringing}
 use Rattle.hands.specs.declared.alarm.Alarm.{Alarm}
-use Rattle.hands.specs.Alarms.{noAlarm, isOn, isHeld, raised, holding}
+use Rattle.hands.specs.Alarms.{noAlarm, isHeld, holding}
 use Rattle.hands.specs.State.{Handled, stateOf, baseOf, alarmOf}
 use Rattle.hands.specs.Outcome.{allSettled, alarmsTold}
 use Rattle.handled.specs.Bytes.{alarmsFrom, handledIn, left}

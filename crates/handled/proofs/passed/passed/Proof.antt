@@ -1,14 +1,12 @@
-use borrow.Author.Needs.{needs}
 use native.Mathlib.Omega.{arith}
 use Prim.Native.Nat.{ℕ}
-use mathlib.Core.Path.{_≡_, refl, ap, sym, subst, _∙_}
+use mathlib.Core.Path.{_≡_, ap, sym, subst, _∙_}
 use mathlib.Core.List.{[]}
 use lib.ListN.{getD, set}
 use Rattle.rules.specs.State.{spotOf}
 use Rattle.rules.specs.Seen.{inputOf, narrow}
 use Rattle.image.specs.Image.{toolFrom, reportsFrom}
 use Rattle.parts.specs.Told.{noteAll}
-use Rattle.follow.specs.Follow.{KeptOutside}
 use Rattle.follow.proofs.Entries.{kept-twice}
 use Rattle.line.proofs.Changed.{kept-wider}
 use Rattle.mapped.specs.Bytes.{ownIn}

@@ -1,7 +1,6 @@
 -- Port by port; the tool's bytes stay, and so does what is outside the alarms.
-use borrow.Author.Needs.{needs}
 use native.Mathlib.Omega.{arith}
-use mathlib.Core.Path.{_≡_, ap, _∙_}
+use mathlib.Core.Path.{ap, _∙_}
 use mathlib.Core.List.{[]}
 use lib.ListN.{getD}
 use Rattle.image.specs.Image.{toolFrom}

@@ -1,7 +1,7 @@
 use borrow.Author.Needs.{needs}
 use native.Mathlib.Omega.{arith}
 use Prim.Native.Nat.{ℕ, _-_, _≤_, _<_}
-use mathlib.Core.Path.{_≡_, refl, ap, ap₂, sym, subst, _∙_}
+use mathlib.Core.Path.{_≡_, ap, ap₂, sym, subst, _∙_}
 use mathlib.Core.Bool.{cond, not}
 use mathlib.Core.List.{List, []}
 use lib.ListN.{length, getD, set}
@@ -9,12 +9,10 @@ use lib.Dec.{eqb}
 use borrow.Author.Tests.{ne-eqb}
 use Rattle.records.specs.declared.name.Name.{Name}
 use Rattle.records.specs.Names.{noName}
-use Rattle.rules.specs.declared.report.Reports.{Reports}
 use Rattle.rules.specs.State.{spotOf}
 use Rattle.rules.specs.Reports.{reportIf}
 use Rattle.image.specs.Image.{toolFrom}
 use Rattle.parts.specs.Told.{noteAll}
-use Rattle.follow.specs.Follow.{KeptOutside}
 use Rattle.mapped.specs.Bytes.{ownIn}
 use Rattle.predicted.proofs.Movers.{own-then, base-then, kept-then}
 use Rattle.hands.specs.declared.alarm.Alarm.{Alarm}

@@ -1,4 +1,3 @@
-use mathlib.Core.Path.{_≡_}
 use Rattle.hands.specs.Alarms.{settled}
 use Rattle.handled.proofs.settle.settled.Statement.{statement}
 use Rattle.handled.proofs.settle.settled.Tie as tie

@@ -1,4 +1,3 @@
-use mathlib.Core.Path.{_≡_}
 use Rattle.handled.specs.Tests.{soundAlarms}
 use Rattle.handled.proofs.sound.sound_alarms.Statement.{statement}
 use Rattle.handled.proofs.sound.sound_alarms.Tie as tie

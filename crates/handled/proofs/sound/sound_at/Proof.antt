@@ -1,9 +1,6 @@
 use borrow.Author.Needs.{needs}
-use mathlib.Core.Path.{_≡_, ap, ap₂, sym, _∙_}
-use mathlib.Core.List.{[]}
-use lib.ListN.{getD}
+use mathlib.Core.Path.{ap, ap₂, sym, _∙_}
 use borrow.Author.Tests.{le-leb, lt-leb}
-use Rattle.rules.specs.declared.tool.Tool.{Tool}
 use Rattle.rules.specs.State.{portAt}
 use Rattle.image.specs.Image.{toolFrom}
 use Rattle.hands.specs.Sound.{agrees, isNone}

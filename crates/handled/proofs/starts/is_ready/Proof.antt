@@ -1,4 +1,3 @@
-use mathlib.Core.Path.{_≡_}
 use borrow.Author.Tests.{eq-eqb, ne-eqb}
 use Rattle.handled.proofs.starts.is_ready.Statement.{statement}
 use Rattle.handled.proofs.starts.is_ready.Tie as tie

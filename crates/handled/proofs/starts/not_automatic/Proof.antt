@@ -1,4 +1,3 @@
-use mathlib.Core.Path.{_≡_}
 use Rattle.handled.proofs.starts.not_automatic.Statement.{statement}
 use Rattle.handled.proofs.starts.not_automatic.Tie as tie
 

@@ -1,4 +1,3 @@
-use mathlib.Core.Path.{_≡_}
 use Rattle.handled.proofs.starts.raised_if.Statement.{statement}
 use Rattle.handled.proofs.starts.raised_if.Tie as tie
 

@@ -1,30 +1,26 @@
 use borrow.Author.Needs.{needs}
 use native.Mathlib.Omega.{arith}
 use Prim.Native.Nat.{ℕ, _≤_, _<_}
-use mathlib.Core.Path.{_≡_, refl, ap, ap₂, sym, subst, _∙_}
+use mathlib.Core.Path.{_≡_, refl, ap, ap₂, sym, _∙_}
 use mathlib.Core.Logic.{_≢_}
 use mathlib.Core.Bool.{Bool, true, false, cond, _&&_}
 use mathlib.Core.List.{List, [], _∷_}
-use lib.ListN.{length, getD, set}
+use lib.ListN.{getD}
 use lib.Dec.{eqb, leb}
 use borrow.Author.Tests.{le-leb, lt-leb}
-use Rattle.lists.proofs.Bools.{clash}
 use Rattle.records.specs.declared.port.Port.{Port}
 use Rattle.rules.specs.declared.row.Seen.{Seen}
-use Rattle.rules.specs.State.{spotOf, portAt, portOf}
+use Rattle.rules.specs.State.{spotOf, portAt}
 use Rattle.rules.specs.Seen.{inputOf, narrow, see}
 use Rattle.rules.specs.Row.{when, unless, judge, isChoice}
-use Rattle.image.specs.Image.{toolFrom, reportsFrom}
-use Rattle.parts.specs.Told.{noteAll}
+use Rattle.image.specs.Image.{toolFrom}
 use Rattle.follow.proofs.Entries.{kept-all}
-use Rattle.line.proofs.Changed.{kept-wider}
 use Rattle.mapped.specs.Bytes.{ownIn}
 use Rattle.prediction.specs.State.{timed}
 use Rattle.wafers.specs.Outcome.{Brought, bringing}
 use Rattle.hands.specs.declared.alarm.Alarm.{Alarm}
-use Rattle.hands.specs.Alarms.{noAlarm, isOn, isHeld, raised, holding}
+use Rattle.hands.specs.Alarms.{noAlarm, raised}
 use Rattle.hands.specs.State.{Handled, stateOf, baseOf, alarmOf}
-use Rattle.hands.specs.Outcome.{allSettled, alarmsTold}
 use Rattle.handled.specs.Bytes.{alarmsFrom, handledIn, left}
 use Rattle.handled.specs.Passing.{passedIn}
 use Rattle.hands.specs.Rows.{manual, automatic, inManual, inAuto}

@@ -1,7 +1,5 @@
 use borrow.Author.Needs.{needs}
-use mathlib.Core.Path.{_≡_, refl}
-use mathlib.Core.Bool.{true, false, _||_}
-use lib.Dec.{eqb}
+use mathlib.Core.Path.{refl}
 use borrow.Author.Tests.{ne-eqb}
 use Rattle.handled.proofs.step.handled_step.Statement.{statement}
 use Rattle.handled.proofs.step.handled_step.Tie as tie

@@ -1,6 +1,4 @@
 use borrow.Author.Needs.{needs}
-use native.Mathlib.Omega.{arith}
-use Prim.Native.Nat.{ℕ}
 use mathlib.Core.Path.{_≡_, ap, _∙_}
 use lib.ListN.{getD}
 use Rattle.rules.specs.State.{spotOf}
