@@ -151,7 +151,7 @@ static void same_with_blanks(size_t blanks)
     hm_tool padded;
     hm_reports told;
     uint8_t text[HM_TEXT_BYTES];
-    uint32_t rows = 0;
+    uint64_t rows = 0;
     size_t i, length;
 
     CHECK(hm_setup(&tool, 2, 2, 0, 0) == HM_ACCEPTED && hm_setup(&padded, 2, 2, 0, 0) == HM_ACCEPTED);
@@ -163,9 +163,10 @@ static void same_with_blanks(size_t blanks)
         CHECK(give_line(&tool, &reports, &run[i], (const uint8_t *)run[i].name, strlen(run[i].name)) == run[i].answer);
         CHECK(give_line(&padded, &told, &run[i], text, length) == run[i].answer);
         CHECK(memcmp(&tool, &padded, sizeof tool) == 0 && memcmp(&reports, &told, sizeof told) == 0);
-        rows |= run[i].answer == HM_ACCEPTED ? 1u << (run[i].number - 1) : 0u;
+        rows |= run[i].answer == HM_ACCEPTED ? UINT64_C(1) << (run[i].number - 1) : 0u;
     }
-    CHECK(rows == (1u << HM_INPUT_CLOCK) - 1 && is_name(tool.carriers[0].name, "LOT-EFGHIJKLMNOP"));
+    CHECK(rows == (((UINT64_C(1) << HM_INPUT_CLOCK) - 1) | (UINT64_C(1) << (HM_INPUT_CONTINUE - 1))));
+    CHECK(is_name(tool.carriers[0].name, "LOT-EFGHIJKLMNOP"));
 }
 
 #define TEXT(bytes) {bytes, sizeof bytes - 1}
