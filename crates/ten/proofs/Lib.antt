@@ -1,0 +1,3 @@
+pub mod Told
+pub mod Moved
+pub mod Ten
