@@ -58,7 +58,8 @@ module _ (m : List ℕ) (l : length m ≡ 1891) (k : ℕ) (b : k < 4) (a : Alarm
           go : (w : Bool) → ltb j k ≡ w → alarmFrom written (alarmStart j) ≡ alarmFrom m (alarmStart j)
           go true e =
               let d = ltb-true j k e in
-              alarm-of (before-stays m (alarmStart k) (a .on ∷ a .held ∷ []) (alarmStart j) (omega arith)) (before-stays m (alarmStart k) (a .on ∷ a .held ∷ []) (alarmStart j + 1) (omega arith))
+              alarm-of (before-stays m (alarmStart k) (a .on ∷ a .held ∷ []) (alarmStart j) (omega arith))
+              (before-stays m (alarmStart k) (a .on ∷ a .held ∷ []) (alarmStart j + 1) (omega arith))
           go false e =
               let d = ltb-false j k e in
               let o : k < j = omega (arith, n) in

@@ -32,6 +32,10 @@ use Rattle.hands.specs.Rows.{Row, passedOn, starts, manual, automatic, inManual
 use Rattle.hands.specs.Outcome.{rowIn, answerBelow, reportsBelow, answerIn, allSettled, alarmsTold, alarmsThen, enact, stateAfter, reportsIn, refused, accepted, givenIn}
 use Rattle.handled.specs.Passing.{alarmsAfter, passedTo, passedIn}
 
+pub never : (b : Bool) → (b && false) ≡ false
+never true = refl
+never false = refl
+
 -- no number is lower than 1
 one-lower : (k : ℕ) → lower 1 k ≡ 1
 unfolding lower

@@ -2,7 +2,7 @@ use borrow.Author.Needs.{needs}
 use native.Mathlib.Omega.{arith}
 use Prim.Native.Nat.{ℕ, _≤_}
 use mathlib.Core.Path.{_≡_, refl, ap, ap₂, sym, subst, _∙_}
-use mathlib.Core.Bool.{Bool, true, false, _&&_}
+use mathlib.Core.Bool.{true, false, _&&_}
 use mathlib.Core.List.{List, []}
 use lib.ListN.{getD, set}
 use lib.Dec.{eqb}
@@ -29,7 +29,7 @@ use Rattle.handled.specs.Passing.{passedIn}
 use Rattle.hands.specs.Rows.{violated}
 use Rattle.handled.proofs.Held.{alarm-held, port-is, none-elsewhere, held-is, refused-is}
 use Rattle.handled.proofs.Below.{alone-left}
-use Rattle.handled.proofs.Rows.{refused-given, held-answers, done-given, holds-given}
+use Rattle.handled.proofs.Rows.{never, refused-given, held-answers, done-given, holds-given}
 use Rattle.handled.proofs.loads.load_done.Statement.{statement}
 use Rattle.handled.proofs.loads.load_done.Tie as tie
 
@@ -78,10 +78,6 @@ module _ (c : tie.After-alarm-at) where
 
   elsewhere : toolFrom (getD m 0 []) .used ≤ spotOf p → alarmOf u p ≡ noAlarm
   elsewhere b = none-elsewhere m (start .pre) p b
-
-never : (b : Bool) → (b && false) ≡ false
-never true = refl
-never false = refl
 
 returns : tie.Need-returns
 returns c =

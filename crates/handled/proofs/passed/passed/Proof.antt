@@ -40,8 +40,10 @@ returns c =
     let w = c .settle-all .ensures in
     let n = b .brought-step .last .0 in
     let g = ap (λ r. record { tool = predictedIn n; answer = r; reports = reportsFrom (b .brought-step .last .1 .0) }) (sym (t .if1 .taken)) ∙ e .0 in
-    let at : ℕ → Type 0 = λ p. (alarmsFrom (ownIn (c .settle-all .last .0)) ≡ allSettled (toolFrom (getD n 0 []) .ports) (set (alarmsFrom (ownIn n)) (spotOf p) (s .args .a)))
-    × (reportsFrom (c .settle-all .last .1 .0) ≡ noteAll (reportsFrom (b .brought-step .last .1 .0)) (alarmsTold 1 (alarmsFrom (ownIn n)) (allSettled (toolFrom (getD n 0 []) .ports) (set (alarmsFrom (ownIn n)) (spotOf p) (s .args .a))))) in
+    let at : ℕ → Type 0 = λ p.
+    let l = allSettled (toolFrom (getD n 0 []) .ports) (set (alarmsFrom (ownIn n)) (spotOf p) (s .args .a)) in
+    (alarmsFrom (ownIn (c .settle-all .last .0)) ≡ l)
+    × (reportsFrom (c .settle-all .last .1 .0) ≡ noteAll (reportsFrom (b .brought-step .last .1 .0)) (alarmsTold 1 (alarmsFrom (ownIn n)) l)) in
     let v = subst at (k .narrow .ensures) (w .1 .0, w .1 .1 .0) in (
       ap (λ r. left (c .settle-all .last .0) (c .settle-all .last .1 .0) r) (t .if1 .taken)
           ∙ accepted-left m (s .pre .0) (input s) (narrow (s .args .port)) (s .args .a) (s .pre .1) n (c .settle-all .last .0) (b .brought-step .last .1 .0) (c .settle-all .last .1 .0)

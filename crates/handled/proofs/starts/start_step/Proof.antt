@@ -1,7 +1,7 @@
 use borrow.Author.Needs.{needs}
 use native.Mathlib.Omega.{arith}
 use Prim.Native.Nat.{ℕ, _≤_, _<_}
-use mathlib.Core.Path.{_≡_, refl, ap, ap₂, sym, _∙_}
+use mathlib.Core.Path.{_≡_, ap, ap₂, sym, _∙_}
 use mathlib.Core.Logic.{_≢_}
 use mathlib.Core.Bool.{Bool, true, false, cond, _&&_}
 use mathlib.Core.List.{List, [], _∷_}
@@ -30,7 +30,7 @@ use Rattle.queue.specs.Requests.{startedTo}
 use Rattle.queued.proofs.Held as queued
 use Rattle.predicted.proofs.Held as predicted
 use Rattle.handled.proofs.Held.{alarm-held, port-is, none-elsewhere, no-port-elsewhere, below-is, fits-is, refused-is}
-use Rattle.handled.proofs.Rows.{refused-given, not-automatic-answers, no-choice-answers, start-given}
+use Rattle.handled.proofs.Rows.{never, refused-given, not-automatic-answers, no-choice-answers, start-given}
 use Rattle.handled.proofs.starts.start_step.Statement.{statement}
 use Rattle.handled.proofs.starts.start_step.Tie as tie
 
@@ -97,10 +97,6 @@ some-started-to-requires c κs =
     let a = c .before .before .before .before in
     let s = start a in
     queued.holds (m a) (predicted.queue-is (m a) (below-is (m a) (s .pre .0)))
-
-never : (b : Bool) → (b && false) ≡ false
-never true = refl
-never false = refl
 
 chosen-of : {b c : Bool} {x y : Alarm} → b ≡ c → x ≡ y → cond b (raised x) x ≡ cond c (raised y) y
 chosen-of e f = rw (e, f)
