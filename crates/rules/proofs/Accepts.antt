@@ -42,6 +42,15 @@ rising-positive m (g ∷ gs) p h =
     go (when b n) q r = and-i (le-leb 1 n q) r
     go (unless b n) q r = and-i (le-leb 1 n q) r
 
+-- where no ground applies, the answer is 0
+pub judge-clear : (gs : List Ground) → Clear gs → judge gs ≡ 0
+judge-clear [] c = refl
+judge-clear (when b n ∷ gs) c = rw (c .0) (judge-clear gs (c .1))
+judge-clear (unless b n ∷ gs) c = rw (c .0) (judge-clear gs (c .1))
+
+pub row-clear : (n : ℕ) (x : Seen) → judge (rowOf n x .grounds) ≡ 0 → Clear (rowOf n x .grounds)
+row-clear n x = let gs = rowOf n x .grounds in clear gs (rising-positive 1 gs (omega arith) (rows-rise n x))
+
 -- ── The walk over rows that accept ──
 -- P of a row's number and of its effect, where none of its grounds applies
 abbrev pub Accepting : (ℕ → Effect → Type 0) → ℕ → Row → Type 0
@@ -49,9 +58,7 @@ Accepting P n r = Clear (r .grounds) → P n (r .effect)
 
 pub walk-accepting : (P : ℕ → Effect → Type 0) (x : Seen) → EachRow (Accepting P) x
     → (n : ℕ) → judge (rowOf n x .grounds) ≡ 0 → P n (rowOf n x .effect)
-walk-accepting P x each n e =
-    let gs = rowOf n x .grounds in
-    walk (Accepting P) x each n (clear gs (rising-positive 1 gs (omega arith) (rows-rise n x)) e)
+walk-accepting P x each n e = walk (Accepting P) x each n (row-clear n x e)
 
 -- what is no row's number never accepts
 pub never : {X : Type 0} → Clear (when true 1 ∷ []) → X

@@ -44,3 +44,7 @@ pub mod LawfulPods
 pub mod LawfulRows
 pub mod Granted
 pub mod Named
+pub mod Undone
+pub mod UndonePorts
+pub mod UndoneBookings
+pub mod UndoneDoor

@@ -36,3 +36,4 @@ pub mod EveryPair
 pub mod Effects
 pub mod Clauses
 pub mod Edges
+pub mod Undoing
