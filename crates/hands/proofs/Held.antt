@@ -68,7 +68,7 @@ steady-after s i st = record { sounds = sounds-go (eqb (answerIn s i) 0); each =
     loads-go false p h = st .loads p h
 
 -- ── A sound state ──
-agrees-at : (qs : List Port) (l : List Alarm) → eachAgrees qs l ≡ true → (k : ℕ) → agrees (getD qs k noPort) (getD l k noAlarm) ≡ true
+pub agrees-at : (qs : List Port) (l : List Alarm) → eachAgrees qs l ≡ true → (k : ℕ) → agrees (getD qs k noPort) (getD l k noAlarm) ≡ true
 unfolding eachAgrees agrees
 agrees-at [] [] h k = refl
 agrees-at [] (a ∷ l) h k = clash h refl

@@ -32,7 +32,7 @@ next-quiet f s t h = rw (t, not-there s 3 h refl, not-there s 4 h refl, not-ther
     go false = refl
 
 -- a course from where no transition leads on
-unmoved : (f : Facts) (s : ℕ) → next (transitions f) s ≡ s → course f s ≡ []
+pub unmoved : (f : Facts) (s : ℕ) → next (transitions f) s ≡ s → course f s ≡ []
 unfolding passed
 unmoved f s e = rw (eq-eqb _ _ e)
 

@@ -19,44 +19,55 @@ use Rattle.hands.specs.Sound.{agrees, eachAgrees}
 use Rattle.hands.specs.Outcome.{allSettled, alarmChange, alarmsTold}
 
 -- ── An alarm that agrees with its port stays ──
-alarm-of : {a b c d : ℕ} → a ≡ b → c ≡ d → _≡_ {A = Alarm} (record { on = a; held = c }) (record { on = b; held = d })
+pub alarm-of : {a b c d : ℕ} → a ≡ b → c ≡ d → _≡_ {A = Alarm} (record { on = a; held = c }) (record { on = b; held = d })
 alarm-of p q = rw (p, q)
 
-off : (n : ℕ) → leb n 1 ≡ true → eqb n 1 ≡ false → 0 ≡ n
-off n l e = let b = leb-true n 1 l in let z = eqb-false n 1 e in omega (arith, z)
+nought : (n : ℕ) → leb n 1 ≡ true → eqb n 1 ≡ false → 0 ≡ n
+nought n l e = let b = leb-true n 1 l in let z = eqb-false n 1 e in omega (arith, z)
 
-settled-stays : (q : Port) (a : Alarm) → agrees q a ≡ true → settled q a ≡ a
-unfolding agrees settled
-settled-stays q a h = alarm-of (clears (readyToLoad q) refl) (holds (loading q) refl)
-  where
-    three : (leb (a .on) 1 && leb (a .held) 1 && (not (isHeld a) || (loading q && isOn a))) ≡ true
-    three = and-l _ (not (isOn a && readyToLoad q)) h
+module _ (q : Port) (a : Alarm) (h : agrees q a ≡ true) where
+  three : (leb (a .on) 1 && leb (a .held) 1 && (not (isHeld a) || (loading q && isOn a))) ≡ true
+  unfolding agrees
+  three = and-l _ (not (isOn a && readyToLoad q)) h
 
-    two : (leb (a .on) 1 && leb (a .held) 1) ≡ true
-    two = and-l _ (not (isHeld a) || (loading q && isOn a)) three
+  two : (leb (a .on) 1 && leb (a .held) 1) ≡ true
+  two = and-l _ (not (isHeld a) || (loading q && isOn a)) three
 
-    both : (u v : Bool) → not (u && v) ≡ true → v ≡ true → u ≡ false
-    both true v e f = sym f ∙ not-true v e
-    both false v e f = refl
+  -- at READY TO LOAD it is off
+  pub off : readyToLoad q ≡ true → 0 ≡ a .on
+  unfolding agrees
+  off e =
+      nought (a .on) (and-l _ _ two)
+      (both (isOn a) (readyToLoad q) (and-r (leb (a .on) 1 && leb (a .held) 1 && (not (isHeld a) || (loading q && isOn a))) _ h) e)
+    where
+      both : (u v : Bool) → not (u && v) ≡ true → v ≡ true → u ≡ false
+      both true v e f = sym f ∙ not-true v e
+      both false v e f = refl
 
-    clears : (w : Bool) → readyToLoad q ≡ w → cond w 0 (a .on) ≡ a .on
-    clears true e =
-        off (a .on) (and-l _ _ two)
-        (both (isOn a) (readyToLoad q) (and-r (leb (a .on) 1 && leb (a .held) 1 && (not (isHeld a) || (loading q && isOn a))) _ h) e)
-    clears false e = refl
+  -- and no pod is held at a port that isn't loading
+  pub unheld : loading q ≡ false → 0 ≡ a .held
+  unheld e =
+      nought (a .held) (and-r (leb (a .on) 1) _ two)
+      (none (isHeld a) (loading q) (isOn a) (and-r (leb (a .on) 1 && leb (a .held) 1) _ three) e)
+    where
+      none : (u v w : Bool) → (not u || (v && w)) ≡ true → v ≡ false → u ≡ false
+      none true true w e f = f
+      none true false w e f = clash e refl
+      none false v w e f = refl
 
-    unheld : (u v w : Bool) → (not u || (v && w)) ≡ true → v ≡ false → u ≡ false
-    unheld true true w e f = f
-    unheld true false w e f = clash e refl
-    unheld false v w e f = refl
+  settled-stays : settled q a ≡ a
+  unfolding settled
+  settled-stays = alarm-of (clears (readyToLoad q) refl) (holds (loading q) refl)
+    where
+      clears : (w : Bool) → readyToLoad q ≡ w → cond w 0 (a .on) ≡ a .on
+      clears true e = off e
+      clears false e = refl
 
-    holds : (w : Bool) → loading q ≡ w → cond w (a .held) 0 ≡ a .held
-    holds true e = refl
-    holds false e =
-        off (a .held) (and-r (leb (a .on) 1) _ two)
-        (unheld (isHeld a) (loading q) (isOn a) (and-r (leb (a .on) 1 && leb (a .held) 1) _ three) e)
+      holds : (w : Bool) → loading q ≡ w → cond w (a .held) 0 ≡ a .held
+      holds true e = refl
+      holds false e = unheld e
 
-all-stay : (qs : List Port) (l : List Alarm) → eachAgrees qs l ≡ true → allSettled qs l ≡ l
+pub all-stay : (qs : List Port) (l : List Alarm) → eachAgrees qs l ≡ true → allSettled qs l ≡ l
 unfolding eachAgrees allSettled
 all-stay [] [] h = refl
 all-stay [] (a ∷ l) h = clash h refl

@@ -1,0 +1,13 @@
+pub mod Rest
+pub mod Alarms
+pub mod Stepped
+pub mod Passing
+pub mod Lifted
+pub mod Turned
+pub mod Paired
+pub mod Ports
+pub mod Bookings
+pub mod Door
+pub mod Queueing
+pub mod Lines
+pub mod Planner
