@@ -17,7 +17,7 @@ use Rattle.bridge.proofs.Refuses.{message-refuses}
 use Rattle.bridge.proofs.Exchanged.{exchange-refuses}
 use Rattle.hawsermole.specs.Calls.{SetUpCall, StepCall, SecsCall, ExchangeCall, OfBytes, SameBytes, SameTool}
 
-same-tool : (a b : List (List ℕ)) → OfBytes a → OfBytes b → wholeIn a ≡ wholeIn b → SameTool a b
+pub same-tool : (a b : List (List ℕ)) → OfBytes a → OfBytes b → wholeIn a ≡ wholeIn b → SameTool a b
 same-tool a b f g e = (first-bytes a b e, second-bytes a b f g e)
 
 -- A refused input leaves every byte of the tool as it was, and a report list of zeros.
@@ -56,17 +56,19 @@ same-again before i r r′ after after′ reports reports′ f g s t = (
   reported-byte reports reports′ (s .told ∙ sym (t .told)),
 )
 
+-- A call with a padded name is the call with the plain one.
+pub plain-call : {before after : List (List ℕ)} {r : ℕ} {reports : List ℕ} (i : Brought) (n : ℕ) → mayPad n i ≡ true
+    → StepCall before (padded n i) r after reports → StepCall before i r after reports
+plain-call {before} i n m t =
+    let p = same-padded (wholeIn before) i n m in
+    record { tool = t .tool ∙ ap (λ o. o .tool) p; told = t .told ∙ ap (λ o. o .reports) p; answered = t .answered ∙ ap (λ o. o .answer) p }
+
 -- And so where the name of one is padded, and the other's plain.
 pub padded-again : (before : List (List ℕ)) (i : Brought) (n r r′ : ℕ) (after after′ : List (List ℕ)) (reports reports′ : List ℕ)
     → OfBytes after → OfBytes after′ → mayPad n i ≡ true → StepCall before i r after reports → StepCall before (padded n i) r′ after′ reports′
     → (r ≡ r′) × SameTool after after′ × SameBytes 201 reports reports′
 padded-again before i n r r′ after after′ reports reports′ f g m s t =
-    let p = same-padded (wholeIn before) i n m in
-    same-again before i r r′ after after′ reports reports′ f g s (record {
-      tool = t .tool ∙ ap (λ o. o .tool) p;
-      told = t .told ∙ ap (λ o. o .reports) p;
-      answered = t .answered ∙ ap (λ o. o .answer) p;
-    })
+    same-again before i r r′ after after′ reports reports′ f g s (plain-call i n m t)
 
 -- And so for set-up, whatever bytes it met.
 pub set-up-again : (P B setting timeout r r′ : ℕ) (after after′ : List (List ℕ)) → OfBytes after → OfBytes after′

@@ -1,4 +1,5 @@
 pub mod Stepped
 pub mod Kept
 pub mod Bytes
+pub mod Undone
 pub mod Called

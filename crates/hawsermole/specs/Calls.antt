@@ -7,7 +7,8 @@ use lib.ListN.{length, getD}
 use lib.Dec.{eqb}
 use lib.Ieee.{Float}
 use Rattle.rules.specs.State.{recordOf}
-use Rattle.rules.specs.Seen.{inputOf}
+use Rattle.rules.specs.Seen.{inputOf, see}
+use Rattle.rules.specs.Undoing.{Pair, isPair}
 use Rattle.rules.specs.History.{Event, history}
 use Rattle.rules.specs.Promise.{Live, Orderly}
 use Rattle.image.specs.Image.{byteAt, toolFrom, reportsFrom}
@@ -141,3 +142,14 @@ SameTool a b = SameBytes 1891 (getD a 0 []) (getD b 0 []) × SameBytes 1891 (get
 -- Each number of a tool's second block is a byte, as all that C can lend: the seconds there are written with four digits.
 abbrev pub OfBytes : List (List ℕ) → Type 0
 OfBytes a = (k : ℕ) → byteAt (getD a 1 []) k < 256
+
+-- ── Two calls that take each other back ──
+-- A pair, as the rows see the two inputs: names are shortened, so that padded ones are the same. Its condition holds in what the bytes hold.
+pub record ArePair (p : Pair) (before : List (List ℕ)) (i j : Brought) : Type 0 where
+  pub pair : isPair p (shown i .timed .input) (shown j .timed .input) ≡ true
+  pub when : p .when (see (baseOf (stateIn before)) (shown i .timed .input)) ≡ true
+
+-- The second is accepted, and every byte of the tool is as it was before the first.
+pub record Undone (before : List (List ℕ)) (answer : ℕ) (after : List (List ℕ)) : Type 0 where
+  pub accepted : answer ≡ 0
+  pub bytes : SameTool after before
