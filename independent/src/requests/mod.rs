@@ -14,6 +14,7 @@
 //! - P7, prediction of ready to unload: [`predict`], which has rows that bring the clock.
 //! - P8, where Tp comes from: [`wafers`], which gives Tp as a total of times.
 //! - P9, hands on an AUTO port: [`alarms`], which has a row of its own, and LoadDone where the alarm is on.
+//! - P10, undoing pairs: [`undo`], which is a table and changes nothing.
 
 pub mod alarms;
 mod maps;
@@ -23,6 +24,7 @@ pub mod queue;
 pub mod reply;
 pub mod secs;
 pub mod texts;
+pub mod undo;
 pub mod wafers;
 mod waiting;
 

@@ -16,6 +16,7 @@ mod predict;
 mod queue;
 mod runs;
 mod soundness;
+mod undo;
 mod wafers;
 mod waiting;
 

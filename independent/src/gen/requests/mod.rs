@@ -10,6 +10,7 @@ mod queue;
 pub mod secs;
 mod tables;
 mod totals;
+mod undoes;
 mod violates;
 mod wafers;
 
@@ -27,6 +28,7 @@ pub use names::random_text;
 pub use predict::random_times;
 pub use tables::{random_table, LONGEST_TABLE};
 pub use totals::{totals, TOTALS};
+pub use undoes::random_pair;
 pub use violates::{violates, ALONG_RUNS, VIOLATES};
 pub use wafers::{random_time, totalling, whole, LIMITS};
 

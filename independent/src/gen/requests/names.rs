@@ -22,7 +22,7 @@ pub(super) fn complete(input: &mut Input, rng: &mut Rng) {
 }
 
 /// Blanks at the end of a name, up to 32 bytes.
-fn pad(name: &mut Vec<u8>, rng: &mut Rng) {
+pub(super) fn pad(name: &mut Vec<u8>, rng: &mut Rng) {
     let longer = name.len() as u32 + 1;
     let any = longer + rng.below(PADDED_LEN as u32 + 1 - longer);
     let length = rng.pick(&[longer, any, any, NAME_LEN as u32, 17, 31, PADDED_LEN as u32]);
