@@ -21,6 +21,7 @@ mod table;
 mod tell;
 #[cfg(test)]
 mod tests;
+mod undo;
 mod wafers;
 
 use std::process::ExitCode;
@@ -104,6 +105,7 @@ fn compare(
     table.foretold = [without_buffer.foretold, from_states.foretold];
     table.totalled = [without_buffer.totalled, from_states.totalled];
     table.violated = [along_runs.violated, from_states.violated];
+    table.undone = [along_runs.undone.and(&without_buffer.undone), states::undone(both, total, &rng)?];
     table.damage("every byte damaged", &damaged::every_byte(both, total, &mut rng)?);
     table.damage("parts mixed up", &damaged::mixed_up(both, total / 4, &mut rng)?);
     table.damage("random bytes", &damaged::random_bytes(both, total / 8, &mut rng)?);

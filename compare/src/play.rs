@@ -10,6 +10,7 @@ use crate::pairs::Pairs;
 use crate::predict::Foretold;
 use crate::queue::Befallen;
 use crate::script::{tabled, Run};
+use crate::undo::Undone;
 use crate::wafers::Totalled;
 
 /// What ends the comparison.
@@ -39,7 +40,7 @@ pub enum Finding {
 
 /// How many inputs were compared, how many of them were accepted, which pairs were met, how many slot maps
 /// were OK at once, how many accepted inputs had a name with blanks at its end, what befell the queues, the
-/// predictions and the alarms, and what the wafers were.
+/// predictions and the alarms, what the wafers were, and what was undone.
 #[derive(Clone, Copy, Default)]
 pub struct Tally {
     pub inputs: u64,
@@ -51,6 +52,7 @@ pub struct Tally {
     pub foretold: Foretold,
     pub totalled: Totalled,
     pub violated: Violated,
+    pub undone: Undone,
 }
 
 impl Tally {

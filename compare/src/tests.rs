@@ -8,6 +8,7 @@ mod wrong_names;
 mod wrong_predict;
 mod wrong_queue;
 mod wrong_replies;
+mod wrong_undo;
 mod wrong_wafers;
 
 use independent::gen::requests::random_run_input;
@@ -233,6 +234,7 @@ fn first_finding(both: &Both) -> Option<Finding> {
         runs::compare(both, 5_000, &mut rng)?;
         runs::without_buffer(both, 5_000, &mut rng)?;
         states::compare(both, 20_000, &mut rng)?;
+        states::undone(both, 20_000, &rng)?;
         damaged::every_byte(both, 1, &mut rng)?;
         damaged::mixed_up(both, 2_000, &mut rng)?;
         damaged::random_bytes(both, 2_000, &mut rng)?;

@@ -6,6 +6,7 @@ use independent::requests::Tool;
 
 use crate::machine::Both;
 use crate::play::{from_state, Finding, Tally};
+use crate::undo::Undone;
 
 /// Inputs from each state.
 const EACH: u64 = 4;
@@ -23,6 +24,17 @@ pub fn compare(both: &Both, total: u64, rng: &mut Rng) -> Result<Tally, Finding>
         }
     }
     Ok(tally)
+}
+
+/// What can be undone in as many states, drawn apart.
+pub fn undone(both: &Both, total: u64, rng: &Rng) -> Result<Undone, Finding> {
+    let mut undone = Undone::default();
+    let mut rng = rng.clone();
+    for _ in 0..total.div_ceil(EACH) {
+        let tool = random_sound_tool(&mut rng);
+        undone.try_all(both, &tool, &mut rng)?;
+    }
+    Ok(undone)
 }
 
 fn stays_sound(both: &Both, tool: &Tool, input: &Input, after: &Tool) -> Result<(), Finding> {
