@@ -296,6 +296,23 @@ hands() {
     outcome "load of a pod that is held without an alarm"
 }
 
+# A planner's dumps: each is told by the number of the first that is the same.
+backing_out() {
+    echo "1 2 1 1 5 6 6 8 9 10 11 11 13 14 11 16 11" | want 0
+    play "$root/examples/planner.script" </dev/null
+    awk '
+        /^(port|rec|map|out|time|predict|alarm) / { dump = dump $0 "\n" }
+        /^end$/ {
+            number++
+            if (!(dump in first)) first[dump] = number
+            line = line (line == "" ? "" : " ") first[dump]
+            dump = ""
+        }
+        END { print line }
+    ' "$work/out" >"$work/kept" && mv "$work/kept" "$work/out"
+    outcome "the dumps of a planner who backs out"
+}
+
 # A script is a test: status 1 where a line that expects isn't met, or none expects.
 checks() {
     checked=$here/checked
@@ -364,6 +381,7 @@ queues
 predictions
 wafers
 hands
+backing_out
 checks
 wrong_calls
 logs
