@@ -2,6 +2,7 @@
 //! first, all of it. Where the condition doesn't hold, what is left behind is what it says.
 
 use independent::gen::requests::random_pair;
+use independent::gen::shuffle;
 use independent::requests::undo::{Pair, When, PAIRS, REQUESTED};
 
 use super::*;
@@ -39,6 +40,7 @@ fn tried(pair: &Pair, t: &Tool, rng: &mut Rng, tries: &mut Tries) {
     if pair.holds(t, first.port, first.value) {
         assert!(!same(t, &between), "nothing to undo: {}", story());
         assert!(answer == 0 && same(t, &back), "{}", story());
+        assert_eq!(exchanged(&reports(t, &first)), reports(&between, &undo), "{}", story());
         tries.with += 1;
         for (met, (_, is)) in tries.kinds.iter_mut().zip(KINDS) {
             *met += is(t) as u64;
@@ -47,6 +49,21 @@ fn tried(pair: &Pair, t: &Tool, rng: &mut Rng, tries: &mut Tries) {
         assert!(same(&left(pair, t, &first, &between), &back), "{}", story());
         *(if same(t, &back) { &mut tries.same } else { &mut tries.other }) += 1;
     }
+}
+
+fn reports(t: &Tool, i: &Input) -> Reports {
+    let mut out = Reports::NONE;
+    step_input(&mut { *t }, i, &mut out);
+    out
+}
+
+/// The same reports with old and new exchanged.
+fn exchanged(reports: &Reports) -> Reports {
+    let mut back = *reports;
+    for report in &mut back.items {
+        core::mem::swap(&mut report.old, &mut report.new);
+    }
+    back
 }
 
 /// The state before with what a pair leaves behind where its condition doesn't hold. A change to the value
@@ -121,4 +138,34 @@ fn the_table() {
     firsts.sort();
     firsts.dedup();
     assert_eq!(firsts.len(), PAIRS.len());
+}
+
+/// Bookings, which are Bind, CarrierNotification, ReserveAtPort and CarrierOut: some of them one after the
+/// other, taken back in any order.
+fn booked_and_taken_back(t: &Tool, rng: &mut Rng) -> usize {
+    let bookings: Vec<&Pair> = PAIRS.iter().filter(|pair| [1, 3, 7, 11].contains(&pair.first)).collect();
+    let (mut now, mut undoing) = (*t, Vec::new());
+    for _ in 0..rng.below(8) {
+        if let Some([first, undo]) = random_pair(&now, rng.pick(&bookings), rng) {
+            now = after(&now, &first).1;
+            undoing.push(undo);
+        }
+    }
+    shuffle(&mut undoing, rng);
+    for undo in &undoing {
+        let (answer, next) = after(&now, undo);
+        assert_eq!(answer, 0, "{undo:?}\n{}", describe(&now));
+        now = next;
+    }
+    assert!(same(t, &now), "{undoing:?}\n{}{}", describe(t), describe(&now));
+    undoing.len()
+}
+
+#[test]
+fn bookings_in_any_order() {
+    let mut several = 0;
+    let mut count = |booked: usize| several += (booked > 2) as u32;
+    states(107, 10_000, |t, rng| count(booked_and_taken_back(t, rng)));
+    along_runs(108, 1_000, |t, rng| count(booked_and_taken_back(t, rng)));
+    assert!(several > 1_000, "{several}");
 }
