@@ -40,6 +40,14 @@ fn padded_names_are_the_same_pair() {
     assert_eq!(leaves(&t, (3, 0, 0, "ABCDEFGHIJKLMNOP "), (4, 0, 0, "ABCDEFGHIJKLMNOP")), None);
 }
 
+/// CancelBind means the pair by its port or by its name, too.
+#[test]
+fn one_of_port_and_name_is_enough() {
+    let t = busy();
+    assert_eq!(leaves(&t, (1, 1, 0, "A"), (2, 1, 0, "")), None);
+    assert_eq!(leaves(&t, (1, 1, 0, "A"), (2, 0, 0, "A")), None);
+}
+
 /// The expected map goes with the record, and the last one that may be expected is no other.
 #[test]
 fn maps_and_the_sixteenth() {

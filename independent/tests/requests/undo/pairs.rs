@@ -121,7 +121,7 @@ fn from_sound_states() {
 #[test]
 fn along_runs_too() {
     let mut tries = [Tries::default(); PAIRS.len()];
-    along_runs(102, 5_000, |t, rng| {
+    along_runs(102, 3_000, |t, rng| {
         for (pair, tries) in PAIRS.iter().zip(&mut tries) {
             tried(pair, t, rng, tries);
         }
