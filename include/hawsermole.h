@@ -10,7 +10,8 @@
  * The rules are document 01's, with document 02's requests P1, expected maps, P3, SECS-II from the host bridge,
  * P4, names padded with blanks, P5, a queue for CarrierOut, P7, prediction of ready to unload, P8, where the predicted
  * time comes from, P9, hands on an AUTO port, P2: hm_waiting, and P13, answers to the bridge. hm_judge, P14, judges a
- * log by document 01 without any request.
+ * log by document 01 without any request. What P10 says of hm_step: a booking, as HM_INPUT_BIND, that was accepted is
+ * taken back by its cancel, as HM_INPUT_CANCEL_BIND, and every byte of the tool is as it was; the manual has the pairs.
  * C99, C11 and C++17.
  * Link with libhawsermole.a; see examples/firmware.c and examples/host_bridge.c. hawsermole_words.h has words for the
  * numbers, and a carrier by its name; hawsermole_events.h SEMI E87's numbers of what a report tells.
@@ -56,8 +57,8 @@
 extern "C" {
 #endif
 
-/* The version of this header, 0x00MMmmpp: 0.12.0. hm_version is the archive's; compare the two once at start. */
-#define HM_VERSION 0x000C00
+/* The version of this header, 0x00MMmmpp: 0.13.0. hm_version is the archive's; compare the two once at start. */
+#define HM_VERSION 0x000D00
 
 /* Limits. */
 #define HM_PORTS 4                 /* a tool has 1 to 4 ports */

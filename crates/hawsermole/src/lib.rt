@@ -32,12 +32,12 @@ use waiting::found::before_end;
 use waiting::found::stopped_at;
 use waiting::found::waits_for_host;
 
-// 0x00MMmmpp: 0.12.0, HM_VERSION of the header that belongs to it.
+// 0x00MMmmpp: 0.13.0, HM_VERSION of the header that belongs to it.
 #[no_mangle]
 pub extern "C" fn hm_version() -> u32
-    ensures { λ r. ⌜ r ≡ 3072 ⌝ }
+    ensures { λ r. ⌜ r ≡ 3328 ⌝ }
 {
-    0x000C00
+    0x000D00
 }
 
 #[no_mangle]
