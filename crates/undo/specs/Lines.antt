@@ -64,7 +64,7 @@ abbrev refused : Pair → Handled → Brought → Brought → ℕ → Line
 refused pair state input undoing answer =
     record { pair = pair; state = state; input = input; undoing = undoing; answer = answer; reads = λ s. 0; was = 0; is = 0 }
 
--- one port and two places, and a run that is accepted
+-- one port and two places, after a run
 abbrev ran : List Brought → Handled
 ran run = after (start 1 2 0 0) run
 
