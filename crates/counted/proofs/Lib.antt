@@ -1,0 +1,5 @@
+pub mod Gathered
+pub mod Ports
+pub mod Modes
+pub mod Layers
+pub mod Lowered
