@@ -5,7 +5,7 @@ use mathlib.Core.Path.{_≡_, refl, ap, sym, _∙_}
 use mathlib.Core.Bool.{Bool, true, false, cond, _&&_}
 use mathlib.Core.List.{List, [], _∷_, _++_, append-nil}
 use lib.ListN.{getD}
-use lib.Dec.{eqb, leb}
+use lib.Dec.{eqb}
 use borrow.Author.Tests.{eqb-true, eq-eqb, ne-eqb, leb-true}
 use Rattle.lists.specs.Lists.{any}
 use Rattle.lists.proofs.Bools.{and-l}
@@ -220,7 +220,9 @@ module _ (P B : ℕ) (lo : 1 ≤ P) (hi : P ≤ 4) (few : B ≤ 16) where
       timed-same = go (isWafers i) refl (wafers.fits i && wafers.good i)
         where
           none : isWafers i ≡ true → [] ≡ brought-adds earlier i
-          none w = sym (taken-idle (eqb (wafers.answerIn (wafers.reached begin earlier) i) 0) (i .timed .input) (ap matters (eqb-true (i .timed .input .number) 35 w)))
+          none w =
+              sym (taken-idle (eqb (wafers.answerIn (wafers.reached begin earlier) i) 0) (i .timed .input)
+              (ap matters (eqb-true (i .timed .input .number) 35 w)))
 
           go : (w : Bool) → isWafers i ≡ w → (g : Bool)
               → gathered timed-then (cond w (cond g (wafers.withTp i (wafers.tpOf i) ∷ []) []) (i .timed ∷ [])) ≡ brought-adds earlier i

@@ -7,8 +7,6 @@ use mathlib.Core.Bool.{Bool, true, false, cond, _&&_}
 use mathlib.Core.List.{List, [], _∷_, _++_}
 use lib.Dec.{eqb}
 use borrow.Author.Tests.{eqb-true, eqb-false, eq-eqb}
-use Rattle.lists.specs.Lists.{howMany}
-use Rattle.records.specs.declared.port.Port.{Port}
 use Rattle.records.specs.Ports.{loading}
 use Rattle.rules.specs.declared.row.Seen.{Seen}
 use Rattle.rules.specs.State as base-state
@@ -30,7 +28,7 @@ use Rattle.tally.specs.Count as tally
 use Rattle.tally.specs.Count.{Entry, wentOut, podsHere}
 use Rattle.tally.proofs.Counted as tally-proofs
 use Rattle.counted.specs.Count.{entries, modeOf}
-use Rattle.counted.proofs.Gathered.{gathered, same-gathered, taken, loadingRead, mode-taken, went-taken}
+use Rattle.counted.proofs.Gathered.{gathered, same-gathered, taken, loadingRead, mode-taken}
 use Rattle.counted.proofs.Modes.{adds, came-run, went-run, mode-run, load-run}
 use Rattle.counted.proofs.Layers.{one-gathered, brought-adds, lowered, same-below}
 
@@ -149,3 +147,21 @@ module _ (P B setting timeout : ℕ) (lo : 1 ≤ P) (hi : P ≤ 4) (few : B ≤ 
         let a = sym (came-run P B (lowered P B lo hi few setting timeout (cutDown begin run))) ∙ c in
         let w = went-run P B (lowered P B lo hi few setting timeout (cutDown begin run)) in
         ap tally.cameIn (sym same-all) ∙ a ∙ ap₂ _+_ (w ∙ ap wentOut same-all) (ap podsHere same-state)
+
+  -- ── The log says the same ──
+  pub mode-log : (p : ℕ) (run : List Brought) → modeOf p (entries begin run) ≡ modeOf p (kept run)
+  unfolding entries gathered modeOf took taken
+  mode-log p [] = refl
+  mode-log p (i ∷ earlier) =
+      let s = reached begin earlier in
+      let n = i .timed .input .number in
+      let port = narrow (i .timed .input .port) in
+      let value = narrow (i .timed .input .value) in
+      keeps-or s i
+      (λ l. cond (eqb (answerIn s i) 0 && eqb n 9 && eqb port p) value (modeOf p (entries begin earlier)) ≡ modeOf p (l ++ kept earlier))
+      (record {
+        refused = λ a. rw a (mode-log p earlier);
+        held = λ a e _. rw (a, ap (λ k. eqb k 9) e) (mode-log p earlier);
+        continues = λ a e. rw (a, ap (λ k. eqb k 9) e) (mode-log p earlier);
+        itself = λ a _ _. rw (a, mode-log p earlier) (sym (mode-taken (i .timed .input) (kept earlier) p true));
+      })

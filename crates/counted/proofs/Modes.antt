@@ -1,15 +1,14 @@
 -- Over a run of document 01: a port's access mode and whether it is loading, read off what is gathered; and the count.
 use Prim.Native.Nat.{ℕ, zero, suc, _+_, _≤_}
-use native.Mathlib.Omega.{arith}
 use native.Mathlib.Decide.{ℕ-discrete}
 use mathlib.Core.Path.{_≡_, refl, ap, sym, _∙_}
-use mathlib.Core.Bool.{Bool, true, false, cond, _&&_, _||_}
-use mathlib.Core.List.{List, [], _∷_, _++_}
+use mathlib.Core.Bool.{Bool, true, false, cond, _&&_}
+use mathlib.Core.List.{List, [], _∷_}
 use lib.ListN.{getD, replicate}
 use lib.Dec.{eqb}
 use borrow.Author.Tests.{eqb-true, eq-eqb, ne-eqb}
 use Rattle.lists.specs.Lists.{howMany}
-use Rattle.lists.proofs.Bools.{or-r, or-false-l, or-false-r}
+use Rattle.lists.proofs.Bools.{or-r}
 use Rattle.records.specs.declared.port.Port.{Port}
 use Rattle.records.specs.Ports.{noPort, newPort, loading}
 use Rattle.rules.specs.declared.row.Effect.{Effect}

@@ -1,17 +1,15 @@
 -- What each row that accepts makes of a port's access mode, and of its load.
 use Prim.Native.Nat.{ℕ}
-use native.Mathlib.Omega.{arith}
 use mathlib.Core.Path.{_≡_, refl, ap, sym, subst, _∙_}
-use mathlib.Core.Bool.{Bool, true, false, not, cond, _&&_, _||_}
+use mathlib.Core.Bool.{Bool, true, false, not, cond, _||_}
 use lib.Dec.{eqb}
-use borrow.Author.Tests.{eqb-true, eq-eqb, ne-eqb}
+use borrow.Author.Tests.{eqb-true, eq-eqb}
 use Rattle.lists.proofs.Bools.{clash, and-l, and-r, not-true}
 use Rattle.records.specs.declared.port.Port.{Port}
-use Rattle.records.specs.Ports.{noPort, idle, loading, unloading, readyToUnload, toUnload, unbound}
+use Rattle.records.specs.Ports.{noPort, idle, loading, toUnload, unbound}
 use Rattle.records.specs.Carriers.{atPort, untied}
 use Rattle.records.specs.Fields.{tiedTo}
 use Rattle.rules.specs.declared.row.Seen.{Seen}
-use Rattle.rules.specs.declared.row.Effect.{Effect}
 use Rattle.rules.specs.State.{State, portOf}
 use Rattle.rules.specs.Seen.{Input, see}
 use Rattle.rules.specs.Row.{judge, placed}

@@ -1,15 +1,17 @@
--- Pods in, pods out, of the whole machine: what a run's inputs and answers say. No state is looked at.
+-- Pods in, pods out, of the whole machine: counted from a run's inputs and answers alone.
 use Prim.Native.Nat.{ℕ, _+_, _-_}
 use mathlib.Core.Path.{_≡_}
 use mathlib.Core.Bool.{Bool, false, not, cond, _&&_}
 use mathlib.Core.List.{List, [], _∷_}
 use lib.Dec.{eqb}
 use Rattle.lists.specs.Lists.{howMany}
+use Rattle.rules.specs.State.{portOf}
 use Rattle.rules.specs.Seen.{narrow}
 use Rattle.tally.specs.Count.{Entry, accepted, wentOut, podsHere}
 use Rattle.wafers.specs.Outcome.{Brought}
-use Rattle.hands.specs.State.{Handled, baseOf, start}
-use Rattle.hands.specs.Outcome.{answerIn, reached}
+use Rattle.hands.specs.Alarms.{isHeld}
+use Rattle.hands.specs.State.{Handled, baseOf, alarmOf, start}
+use Rattle.hands.specs.Outcome.{answerIn, stateAfter, reached}
 
 -- the log of a run, the latest first
 unfoldable pub entries : Handled → List Brought → List Entry
@@ -50,10 +52,17 @@ continued log = howMany (accepted 36) log
 abbrev pub cameIn : List Entry → ℕ
 cameIn log = loaded log + continued log
 
--- What holds after any finite run from a valid set-up, refused inputs included, whatever the times: the pods at ports and the carriers in
--- the buffer are those that came in and didn't go out, which is UnloadDone (25).
+-- ── What holds after any finite run from a valid set-up, refused inputs included, whatever the times ──
+-- the pods at ports and the carriers in the buffer are those that came in and didn't go out, which is UnloadDone (25)
 pub record Counted (P B setting timeout : ℕ) (run : List Brought) : Type 0 where
   pub all : cameIn (entries (start P B setting timeout) run)
       ≡ wentOut (entries (start P B setting timeout) run) + podsHere (baseOf (reached (start P B setting timeout) run))
   pub less : cameIn (entries (start P B setting timeout) run) - wentOut (entries (start P B setting timeout) run)
       ≡ podsHere (baseOf (reached (start P B setting timeout) run))
+
+-- the log tells each port's access mode, and whether a LoadDone that is accepted next is held
+pub record Told (P B setting timeout : ℕ) (run : List Brought) : Type 0 where
+  pub mode : (p : ℕ) → portOf (baseOf (reached (start P B setting timeout) run)) p .access ≡ modeOf p (entries (start P B setting timeout) run)
+  pub held : (i : Brought) → answerIn (reached (start P B setting timeout) run) i ≡ 0 → i .timed .input .number ≡ 14
+      → isHeld (alarmOf (stateAfter (reached (start P B setting timeout) run) i) (narrow (i .timed .input .port)))
+      ≡ violating (narrow (i .timed .input .port)) (entries (start P B setting timeout) run)
