@@ -6,3 +6,4 @@ pub mod Lowered
 pub mod Loads
 pub mod Held
 pub mod Counted
+pub mod Cases
