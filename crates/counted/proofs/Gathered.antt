@@ -1,10 +1,11 @@
 -- What is gathered along a run, and along the run of another layer that it stands for.
-use Prim.Native.Nat.{ℕ, _+_}
+use Prim.Native.Nat.{ℕ, _+_, _≤_}
 use native.Mathlib.Omega.{arith}
 use mathlib.Core.Path.{_≡_, refl, ap, ap₂, sym, _∙_}
 use mathlib.Core.Bool.{Bool, true, false, cond, _&&_, _||_}
-use mathlib.Core.List.{List, [], _∷_, _++_, append-assoc}
+use mathlib.Core.List.{List, [], _∷_, _++_, append-assoc, append-nil}
 use lib.Dec.{eqb}
+use borrow.Author.Tests.{ne-eqb}
 use Rattle.lists.specs.Lists.{howMany}
 use Rattle.lists.proofs.Bools.{or-false-l, or-false-r}
 use Rattle.rules.specs.Seen.{Input, narrow}
@@ -24,6 +25,11 @@ gathered-on own [] earlier = refl
 gathered-on own (i ∷ later) earlier =
     ap (λ l. own (later ++ earlier) i ++ l) (gathered-on own later earlier)
     ∙ sym (append-assoc (own (later ++ earlier) i) (gathered (λ l i. own (l ++ earlier) i) later) (gathered own earlier))
+
+-- one input alone
+pub one-gathered : {I : Type 0} (own : List I → I → List Entry) (i : I) → gathered own (i ∷ []) ≡ own [] i
+unfolding gathered
+one-gathered own i = append-nil (own [] i)
 
 -- Where each input adds as much as the inputs below that it stands for, a run adds as much as the run below.
 module _ {I J : Type 0} (below : List J → J → List Entry) (own : List I → I → List Entry)
@@ -52,6 +58,18 @@ done i = record { input = i; answer = 0 }
 unfoldable pub taken : Bool → Input → List Entry
 taken a i = cond (matters (i .number)) (cond a (done i ∷ []) []) []
 
+pub taken-idle : (a : Bool) (i : Input) → matters (i .number) ≡ false → taken a i ≡ []
+unfolding taken
+taken-idle a i m = rw m
+
+pub taken-refused : (i : Input) → taken false i ≡ []
+unfolding taken
+taken-refused i = go (matters (i .number))
+  where
+    go : (m : Bool) → _≡_ {A = List Entry} (cond m [] []) []
+    go true = refl
+    go false = refl
+
 -- the latest of these four at port p was LoadStart
 unfoldable pub loadingRead : ℕ → List Entry → Bool
 loadingRead p [] = false
@@ -73,6 +91,18 @@ idle n e =
       loadDone = or-false-r (eqb n 13) _ (or-false-l (eqb n 13 || eqb n 14) _ (or-false-l (eqb n 13 || eqb n 14 || eqb n 15) _ l));
       unloadDone = or-false-r (eqb n 9 || turnsLoad n) _ e;
     }
+
+-- no input that a request adds matters
+pub late-idle : (n : ℕ) → 26 ≤ n → matters n ≡ false
+late-idle n b =
+    rw (
+      ne-eqb n 9 (λ z. omega arith),
+      ne-eqb n 13 (λ z. omega arith),
+      ne-eqb n 14 (λ z. omega arith),
+      ne-eqb n 15 (λ z. omega arith),
+      ne-eqb n 24 (λ z. omega arith),
+      ne-eqb n 25 (λ z. omega arith),
+    )
 
 -- ── What is read off it ──
 module _ (i : Input) (log : List Entry) where

@@ -142,7 +142,7 @@ module _ (P B setting timeout : ℕ) (lo : 1 ≤ P) (hi : P ≤ 4) (few : B ≤ 
       raises-is : raises p (stepOf s i) ≡ (byHand e && eqb (modeOf p log) 1)
       unfolding raises
       raises-is =
-          rw (a, eq-eqb port p z, eq-eqb number 13 n, mode-kept P B setting timeout lo hi few earlier p, mode-log P B setting timeout lo hi few p earlier)
+          rw (a, eq-eqb port p z, eq-eqb number 13 n, mode-kept P B setting timeout lo hi few earlier p, mode-log begin p earlier)
 
       starts : isOn (alarmOf (stateAfter s i) p) ≡ (byHand e && eqb (modeOf p log) 1)
       starts =
@@ -151,7 +151,7 @@ module _ (P B setting timeout : ℕ) (lo : 1 ≤ P) (hi : P ≤ 4) (few : B ≤ 
 
     -- any other input
     module _ (d : eqb (answerIn s i) 0 ≡ true → number ≡ 13 → port ≢ p) where
-      still : Loads s i p (kept P B setting timeout lo hi few earlier)
+      still : Loads s i p (kept begin earlier)
       unfolding gathered
       still = loads s i p _ d (sym (load-kept P B setting timeout lo hi few (i ∷ earlier) p) ∙ l)
 

@@ -3,10 +3,10 @@ use Prim.Native.Nat.{ℕ, _≤_}
 use native.Mathlib.Omega.{arith}
 use mathlib.Core.Path.{_≡_, refl, ap, sym, _∙_}
 use mathlib.Core.Bool.{Bool, true, false, cond, _&&_}
-use mathlib.Core.List.{List, [], _∷_, _++_, append-nil}
+use mathlib.Core.List.{List, [], _∷_, _++_}
 use lib.ListN.{getD}
 use lib.Dec.{eqb}
-use borrow.Author.Tests.{eqb-true, eq-eqb, ne-eqb, leb-true}
+use borrow.Author.Tests.{eqb-true, eq-eqb, leb-true}
 use Rattle.lists.specs.Lists.{any}
 use Rattle.lists.proofs.Bools.{and-l}
 use Rattle.rules.specs.State as base-state
@@ -42,44 +42,24 @@ use Rattle.wafers.specs.Outcome.{Brought, isWafers}
 use Rattle.wafers.specs.Projection as wafers-runs
 use Rattle.wafers.proofs.Projected as wafers-below
 use Rattle.tally.specs.Count.{Entry}
-use Rattle.counted.proofs.Gathered.{gathered, same-gathered, matters, taken}
+use Rattle.counted.proofs.Gathered.{gathered, one-gathered, same-gathered, matters, taken, taken-idle, taken-refused, late-idle}
 use Rattle.counted.proofs.Modes.{adds}
 
--- ── What an input adds ──
-pub taken-idle : (a : Bool) (i : Input) → matters (i .number) ≡ false → taken a i ≡ []
-unfolding taken
-taken-idle a i m = rw m
+-- ── What an input adds after a run from s ──
+abbrev maps-adds : Mapped → List Input → Input → List Entry
+maps-adds s earlier i = taken (eqb (maps.answerIn (maps-runs.reached s earlier) i) 0) i
 
-pub taken-refused : (i : Input) → taken false i ≡ []
-unfolding taken
-taken-refused i = go (matters (i .number))
-  where
-    go : (m : Bool) → _≡_ {A = List Entry} (cond m [] []) []
-    go true = refl
-    go false = refl
+abbrev queue-adds : Queued → List Input → Input → List Entry
+queue-adds s earlier i = taken (eqb (queue.answerIn (queue-runs.reached s earlier) i) 0) i
 
--- one input alone
-pub one-gathered : {I : Type 0} (own : List I → I → List Entry) (i : I) → gathered own (i ∷ []) ≡ own [] i
-unfolding gathered
-one-gathered own i = append-nil (own [] i)
+abbrev timed-adds : Predicted → List Timed → Timed → List Entry
+timed-adds s earlier i = taken (eqb (prediction.answerIn (prediction.reached s earlier) i) 0) (i .input)
 
--- no input that a request adds matters
-late-idle : (n : ℕ) → 26 ≤ n → matters n ≡ false
-late-idle n b =
-    rw (
-      ne-eqb n 9 (λ z. omega arith),
-      ne-eqb n 13 (λ z. omega arith),
-      ne-eqb n 14 (λ z. omega arith),
-      ne-eqb n 15 (λ z. omega arith),
-      ne-eqb n 24 (λ z. omega arith),
-      ne-eqb n 25 (λ z. omega arith),
-    )
+abbrev pub brought-adds : Predicted → List Brought → Brought → List Entry
+brought-adds s earlier i = taken (eqb (wafers.answerIn (wafers.reached s earlier) i) 0) (i .timed .input)
 
+-- ── P1's layer on document 01 ──
 module _ (P B : ℕ) (lo : 1 ≤ P) (hi : P ≤ 4) (few : B ≤ 16) where
-  -- ── P1's layer on document 01 ──
-  abbrev maps-adds : List Input → Input → List Entry
-  maps-adds earlier i = taken (eqb (maps.answerIn (maps-runs.reached (maps-state.start P B) earlier) i) 0) i
-
   module _ (earlier : List Input) (i : Input) where
     abbrev m : Mapped
     m = maps-runs.reached (maps-state.start P B) earlier
@@ -88,7 +68,7 @@ module _ (P B : ℕ) (lo : 1 ≤ P) (hi : P ≤ 4) (few : B ≤ 16) where
     maps-cut = maps-runs.cutDown (maps-state.start P B) earlier
 
     abbrev base-then : List Input → Input → List Entry
-    base-then l j = adds P B (l ++ maps-cut) j
+    base-then l j = adds (base-state.start P B) (l ++ maps-cut) j
 
     -- what is accepted there is accepted here
     base-accepts : eqb (maps.answerIn m i) 0 ≡ true → eqb (base.answerIn (base-runs.reached (base-state.start P B) maps-cut) i) 0 ≡ true
@@ -109,141 +89,131 @@ module _ (P B : ℕ) (lo : 1 ≤ P) (hi : P ≤ 4) (few : B ≤ 16) where
         go true a false e = one-gathered base-then i ∙ ap (λ w. taken w i) (base-accepts a)
         go false a q e = sym (taken-refused i)
 
-  -- ── P5's layer on P1's ──
-  abbrev queue-adds : List Input → Input → List Entry
-  queue-adds earlier i = taken (eqb (queue.answerIn (queue-runs.reached (queue-state.start P B) earlier) i) 0) i
+-- ── P5's layer on P1's ──
+module _ (begin : Queued) (earlier : List Input) (i : Input) where
+  abbrev q : Queued
+  q = queue-runs.reached begin earlier
 
-  module _ (earlier : List Input) (i : Input) where
-    abbrev q : Queued
-    q = queue-runs.reached (queue-state.start P B) earlier
+  abbrev maps-then : List Input → Input → List Entry
+  maps-then l j = maps-adds (begin .mapped) (l ++ queue-runs.cutDown begin earlier) j
 
-    abbrev queue-cut : List Input
-    queue-cut = queue-runs.cutDown (queue-state.start P B) earlier
+  abbrev Adds : queue-rows.Row → Type 0
+  Adds r = queue.answersIn (q .mapped) (r .stands) ≡ 0 → gathered maps-then (r .stands) ≡ taken true i
 
-    abbrev maps-then : List Input → Input → List Entry
-    maps-then l j = maps-adds (l ++ queue-cut) j
+  -- for itself
+  itself : queue.answersIn (q .mapped) (i ∷ []) ≡ 0 → gathered maps-then (i ∷ []) ≡ taken true i
+  unfolding maps-runs.reached
+  itself z =
+      one-gathered maps-then i
+      ∙ ap (λ w. taken w i)
+      (ap (λ (s : Mapped). eqb (maps.answerIn s i) 0) (queue-below.below begin earlier) ∙ last-zero (q .mapped) i [] z)
 
-    abbrev Adds : queue-rows.Row → Type 0
-    Adds r = queue.answersIn (q .mapped) (r .stands) ≡ 0 → gathered maps-then (r .stands) ≡ taken true i
+  -- for none, or for inputs that don't matter: 7, 11 and 12
+  idle-adds : (n : ℕ) → i .number ≡ n → matters n ≡ false → {l : List Entry} → l ≡ [] → l ≡ taken true i
+  idle-adds n e k z = z ∙ sym (taken-idle true i (ap matters e ∙ k))
 
-    -- for itself
-    itself : queue.answersIn (q .mapped) (i ∷ []) ≡ 0 → gathered maps-then (i ∷ []) ≡ taken true i
-    unfolding maps-runs.reached
-    itself z =
-        one-gathered maps-then i
-        ∙ ap (λ w. taken w i)
-        (ap (λ (s : Mapped). eqb (maps.answerIn s i) 0) (queue-below.below (queue-state.start P B) earlier) ∙ last-zero (q .mapped) i [] z)
+  out : (w : Bool) (r : Request) → gathered maps-then (cond w (queue-rows.comesOut r i) []) ≡ []
+  unfolding gathered taken
+  out true r = refl
+  out false r = refl
 
-    -- for none, or for inputs that don't matter: 7, 11 and 12
-    idle-adds : (n : ℕ) → i .number ≡ n → matters n ≡ false → {l : List Entry} → l ≡ [] → l ≡ taken true i
-    idle-adds n e k z = z ∙ sym (taken-idle true i (ap matters e ∙ k))
+  rows-add : Adds (queue.rowIn q i)
+  unfolding gathered taken
+  rows-add =
+      queue-walk.walk Adds (i .number) (queue-state.baseOf q) (q .queue) (see (queue-state.baseOf q) i) i (record {
+        cancelCarrier = λ _. itself;
+        carrierOut = λ e _. idle-adds 7 e refl refl;
+        cancelReservationAtPort = λ _. itself;
+        loadStart = λ _. itself;
+        openRow = λ _. itself;
+        outStart = λ e _. idle-adds 27 e refl refl;
+        outDone = λ e _.
+            idle-adds 28 e refl (out (any (startedTo (see (queue-state.baseOf q) i .port)) (q .queue))
+            (getD (q .queue) (startedStands (see (queue-state.baseOf q) i .port) (q .queue)) noRequest));
+        cancelCarrierOut = λ e _. idle-adds 29 e refl refl;
+        cancelAllCarrierOut = λ e _. idle-adds 30 e refl refl;
+        other = λ _. itself;
+      })
 
-    out : (w : Bool) (r : Request) → gathered maps-then (cond w (queue-rows.comesOut r i) []) ≡ []
-    unfolding gathered taken
-    out true r = refl
-    out false r = refl
+  maps-same : gathered maps-then (queue-runs.standsFor q i) ≡ taken (eqb (queue.answerIn q i) 0) i
+  unfolding queue-runs.standsFor gathered
+  maps-same = go (eqb (queue.answerIn q i) 0) refl
+    where
+      go : (w : Bool) → eqb (queue.answerIn q i) 0 ≡ w → gathered maps-then (cond w (queue.rowIn q i .stands) []) ≡ taken w i
+      go true a = rows-add (below-zero q i a)
+      go false a = sym (taken-refused i)
 
-    rows-add : Adds (queue.rowIn q i)
-    unfolding gathered taken
-    rows-add =
-        queue-walk.walk Adds (i .number) (queue-state.baseOf q) (q .queue) (see (queue-state.baseOf q) i) i (record {
-          cancelCarrier = λ _. itself;
-          carrierOut = λ e _. idle-adds 7 e refl refl;
-          cancelReservationAtPort = λ _. itself;
-          loadStart = λ _. itself;
-          openRow = λ _. itself;
-          outStart = λ e _. idle-adds 27 e refl refl;
-          outDone = λ e _.
-              idle-adds 28 e refl (out (any (startedTo (see (queue-state.baseOf q) i .port)) (q .queue))
-              (getD (q .queue) (startedStands (see (queue-state.baseOf q) i .port) (q .queue)) noRequest));
-          cancelCarrierOut = λ e _. idle-adds 29 e refl refl;
-          cancelAllCarrierOut = λ e _. idle-adds 30 e refl refl;
-          other = λ _. itself;
-        })
+-- ── P7's layer on P5's ──
+-- an input without a clock stands for itself
+abbrev plain : Timed → List Input
+plain i = cond (isTimed (i .input .number)) [] (i .input ∷ [])
 
-    maps-same : gathered maps-then (queue-runs.standsFor q i) ≡ taken (eqb (queue.answerIn q i) 0) i
-    unfolding queue-runs.standsFor gathered
-    maps-same = go (eqb (queue.answerIn q i) 0) refl
-      where
-        go : (w : Bool) → eqb (queue.answerIn q i) 0 ≡ w → gathered maps-then (cond w (queue.rowIn q i .stands) []) ≡ taken w i
-        go true a = rows-add (below-zero q i a)
-        go false a = sym (taken-refused i)
+timed-cut : (earlier : List Timed) (i : Timed) → prediction-runs.cutDown (i ∷ earlier) ≡ plain i ++ prediction-runs.cutDown earlier
+unfolding prediction-runs.cutDown
+timed-cut earlier i = go (isTimed (i .input .number))
+  where
+    go : (w : Bool)
+        → cond w (prediction-runs.cutDown earlier) (i .input ∷ prediction-runs.cutDown earlier)
+        ≡ cond w [] (i .input ∷ []) ++ prediction-runs.cutDown earlier
+    go true = refl
+    go false = refl
 
-  -- ── P7's layer on P5's ──
-  module _ (setting timeout : ℕ) where
-    abbrev begin : Predicted
-    begin = prediction-state.start P B setting timeout
+module _ (begin : Predicted) (earlier : List Timed) (i : Timed) where
+  abbrev queue-then : List Input → Input → List Entry
+  queue-then l j = queue-adds (begin .queued) (l ++ prediction-runs.cutDown earlier) j
 
-    abbrev timed-adds : List Timed → Timed → List Entry
-    timed-adds earlier i = taken (eqb (prediction.answerIn (prediction.reached begin earlier) i) 0) (i .input)
+  queue-same : gathered queue-then (plain i) ≡ timed-adds begin earlier i
+  unfolding gathered
+  queue-same = go (isTimed (i .input .number)) refl
+    where
+      go : (w : Bool) → isTimed (i .input .number) ≡ w → gathered queue-then (cond w [] (i .input ∷ [])) ≡ timed-adds begin earlier i
+      go true t = let b = leb-true 31 (i .input .number) (and-l _ _ t) in sym (taken-idle _ (i .input) (late-idle (i .input .number) (omega arith)))
+      go false t =
+          one-gathered queue-then (i .input)
+          ∙ ap (λ n. taken (eqb n 0) (i .input))
+          (ap (λ s. queue.answerIn s (i .input)) (prediction-below.below begin earlier)
+          ∙ sym (prediction-below.plain-answers (prediction.reached begin earlier) i t))
 
-    -- an input without a clock stands for itself
-    abbrev plain : Timed → List Input
-    plain i = cond (isTimed (i .input .number)) [] (i .input ∷ [])
+-- ── P8's layer on P7's ──
+module _ (begin : Predicted) (earlier : List Brought) (i : Brought) where
+  abbrev timed-then : List Timed → Timed → List Entry
+  timed-then l j = timed-adds begin (l ++ wafers-runs.cutDown earlier) j
 
-    timed-cut : (earlier : List Timed) (i : Timed) → prediction-runs.cutDown (i ∷ earlier) ≡ plain i ++ prediction-runs.cutDown earlier
-    unfolding prediction-runs.cutDown
-    timed-cut earlier i = go (isTimed (i .input .number))
-      where
-        go : (w : Bool)
-            → cond w (prediction-runs.cutDown earlier) (i .input ∷ prediction-runs.cutDown earlier)
-            ≡ cond w [] (i .input ∷ []) ++ prediction-runs.cutDown earlier
-        go true = refl
-        go false = refl
+  timed-same : gathered timed-then (wafers.standsFor i) ≡ brought-adds begin earlier i
+  unfolding gathered wafers.standsFor taken
+  timed-same = go (isWafers i) refl (wafers.fits i && wafers.good i)
+    where
+      none : isWafers i ≡ true → [] ≡ brought-adds begin earlier i
+      none w =
+          sym (taken-idle (eqb (wafers.answerIn (wafers.reached begin earlier) i) 0) (i .timed .input)
+          (ap matters (eqb-true (i .timed .input .number) 35 w)))
 
-    module _ (earlier : List Timed) (i : Timed) where
-      abbrev queue-then : List Input → Input → List Entry
-      queue-then l j = queue-adds (l ++ prediction-runs.cutDown earlier) j
+      go : (w : Bool) → isWafers i ≡ w → (g : Bool)
+          → gathered timed-then (cond w (cond g (wafers.withTp i (wafers.tpOf i) ∷ []) []) (i .timed ∷ [])) ≡ brought-adds begin earlier i
+      go true w true = none w
+      go true w false = none w
+      go false w g =
+          one-gathered timed-then (i .timed)
+          ∙ ap (λ n. taken (eqb n 0) (i .timed .input))
+          (ap (λ s. prediction.answerIn s (i .timed)) (sym (wafers-below.below begin earlier))
+          ∙ sym (wafers-below.answers-below (wafers.reached begin earlier) i (i .timed) (rw w)))
 
-      queue-same : gathered queue-then (plain i) ≡ timed-adds earlier i
-      unfolding gathered
-      queue-same = go (isTimed (i .input .number)) refl
-        where
-          go : (w : Bool) → isTimed (i .input .number) ≡ w → gathered queue-then (cond w [] (i .input ∷ [])) ≡ timed-adds earlier i
-          go true t = let b = leb-true 31 (i .input .number) (and-l _ _ t) in sym (taken-idle _ (i .input) (late-idle (i .input .number) (omega arith)))
-          go false t =
-              one-gathered queue-then (i .input)
-              ∙ ap (λ n. taken (eqb n 0) (i .input))
-              (ap (λ s. queue.answerIn s (i .input)) (prediction-below.below begin earlier)
-              ∙ sym (prediction-below.plain-answers (prediction.reached begin earlier) i t))
+-- ── All ──
+-- the run of document 01 that a run of P8's layer stands for
+abbrev pub lowered : ℕ → ℕ → List Brought → List Input
+lowered P B run =
+    maps-runs.cutDown (maps-state.start P B) (queue-runs.cutDown (queue-state.start P B) (prediction-runs.cutDown (wafers-runs.cutDown run)))
 
-    -- ── P8's layer on P7's ──
-    abbrev pub brought-adds : List Brought → Brought → List Entry
-    brought-adds earlier i = taken (eqb (wafers.answerIn (wafers.reached begin earlier) i) 0) (i .timed .input)
-
-    module _ (earlier : List Brought) (i : Brought) where
-      abbrev timed-then : List Timed → Timed → List Entry
-      timed-then l j = timed-adds (l ++ wafers-runs.cutDown earlier) j
-
-      timed-same : gathered timed-then (wafers.standsFor i) ≡ brought-adds earlier i
-      unfolding gathered wafers.standsFor taken
-      timed-same = go (isWafers i) refl (wafers.fits i && wafers.good i)
-        where
-          none : isWafers i ≡ true → [] ≡ brought-adds earlier i
-          none w =
-              sym (taken-idle (eqb (wafers.answerIn (wafers.reached begin earlier) i) 0) (i .timed .input)
-              (ap matters (eqb-true (i .timed .input .number) 35 w)))
-
-          go : (w : Bool) → isWafers i ≡ w → (g : Bool)
-              → gathered timed-then (cond w (cond g (wafers.withTp i (wafers.tpOf i) ∷ []) []) (i .timed ∷ [])) ≡ brought-adds earlier i
-          go true w true = none w
-          go true w false = none w
-          go false w g =
-              one-gathered timed-then (i .timed)
-              ∙ ap (λ n. taken (eqb n 0) (i .timed .input))
-              (ap (λ s. prediction.answerIn s (i .timed)) (sym (wafers-below.below begin earlier))
-              ∙ sym (wafers-below.answers-below (wafers.reached begin earlier) i (i .timed) (rw w)))
-
-    -- ── All ──
-    -- the run of document 01 that a run of P8's layer stands for
-    abbrev pub lowered : List Brought → List Input
-    lowered run =
-        maps-runs.cutDown (maps-state.start P B) (queue-runs.cutDown (queue-state.start P B) (prediction-runs.cutDown (wafers-runs.cutDown run)))
-
-    pub same-below : (run : List Brought) → gathered (adds P B) (lowered run) ≡ gathered brought-adds run
-    unfolding maps-runs.cutDown queue-runs.cutDown prediction-runs.cutDown wafers-runs.cutDown
-    same-below run =
-        same-gathered (adds P B) maps-adds (maps-runs.cutDown (maps-state.start P B)) (λ l i. maps-runs.standsFor (m l i) i) refl (λ _ _. refl) base-same _
-        ∙ same-gathered maps-adds queue-adds (queue-runs.cutDown (queue-state.start P B)) (λ l i. queue-runs.standsFor (q l i) i) refl (λ _ _. refl) maps-same _
-        ∙ same-gathered queue-adds timed-adds prediction-runs.cutDown (λ _ i. plain i) refl timed-cut queue-same _
-        ∙ same-gathered timed-adds brought-adds wafers-runs.cutDown (λ _ i. wafers.standsFor i) refl (λ _ _. refl) timed-same run
+pub same-below : (P B setting timeout : ℕ) → 1 ≤ P → P ≤ 4 → B ≤ 16 → (run : List Brought)
+    → gathered (adds (base-state.start P B)) (lowered P B run) ≡ gathered (brought-adds (prediction-state.start P B setting timeout)) run
+unfolding maps-runs.cutDown queue-runs.cutDown prediction-runs.cutDown wafers-runs.cutDown
+same-below P B setting timeout lo hi few run =
+    let m = maps-state.start P B in
+    let q = queue-state.start P B in
+    let p = prediction-state.start P B setting timeout in
+    same-gathered (adds (base-state.start P B)) (maps-adds m)
+    (maps-runs.cutDown m) (λ l i. maps-runs.standsFor (maps-runs.reached m l) i) refl (λ _ _. refl) (base-same P B lo hi few) _
+    ∙ same-gathered (maps-adds m) (queue-adds q)
+    (queue-runs.cutDown q) (λ l i. queue-runs.standsFor (queue-runs.reached q l) i) refl (λ _ _. refl) (maps-same q) _
+    ∙ same-gathered (queue-adds q) (timed-adds p) prediction-runs.cutDown (λ _ i. plain i) refl timed-cut (queue-same p) _
+    ∙ same-gathered (timed-adds p) (brought-adds p) wafers-runs.cutDown (λ _ i. wafers.standsFor i) refl (λ _ _. refl) (timed-same p) run

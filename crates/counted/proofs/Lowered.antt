@@ -7,12 +7,13 @@ use mathlib.Core.Bool.{Bool, true, false, cond, _&&_}
 use mathlib.Core.List.{List, [], _∷_, _++_}
 use lib.Dec.{eqb}
 use borrow.Author.Tests.{eqb-true, eqb-false, eq-eqb}
+use Rattle.lists.specs.Lists.{howMany}
 use Rattle.records.specs.Ports.{loading}
 use Rattle.rules.specs.declared.row.Seen.{Seen}
 use Rattle.rules.specs.State as base-state
 use Rattle.rules.specs.State.{portOf}
 use Rattle.rules.specs.History as base-runs
-use Rattle.rules.specs.Seen.{narrow, see}
+use Rattle.rules.specs.Seen.{Input, narrow, see}
 use Rattle.queue.proofs.SoundRuns.{lower-zero}
 use Rattle.prediction.specs.State.{Predicted}
 use Rattle.wafers.specs.Outcome as wafers
@@ -26,11 +27,12 @@ use Rattle.hands.proofs.Projected.{below}
 use Rattle.hands.proofs.Nobody.{projected}
 use Rattle.tally.specs.Count as tally
 use Rattle.tally.specs.Count.{Entry, wentOut, podsHere}
+use Rattle.tally.proofs.Lists.{one}
 use Rattle.tally.proofs.Counted as tally-proofs
 use Rattle.counted.specs.Count.{entries, modeOf}
-use Rattle.counted.proofs.Gathered.{gathered, same-gathered, taken, loadingRead, mode-taken}
+use Rattle.counted.proofs.Gathered.{gathered, one-gathered, same-gathered, taken, loadingRead, mode-taken, went-taken}
 use Rattle.counted.proofs.Modes.{adds, came-run, went-run, mode-run, load-run}
-use Rattle.counted.proofs.Layers.{one-gathered, brought-adds, lowered, same-below}
+use Rattle.counted.proofs.Layers.{brought-adds, lowered, same-below}
 
 -- ── One input ──
 -- a held LoadDone stands for none, Continue for LoadDone, any other for itself
@@ -87,81 +89,100 @@ module _ (s : Handled) (i : Brought) where
       go true a = stands-or number _ _ i (λ l. Q (took l)) (ways .held a) (ways .continues a) (ways .itself a)
       go false a = ways .refused a
 
--- ── Runs ──
-module _ (P B setting timeout : ℕ) (lo : 1 ≤ P) (hi : P ≤ 4) (few : B ≤ 16) where
-  abbrev begin : Handled
-  begin = start P B setting timeout
+-- what a run from s keeps
+abbrev pub kept : Handled → List Brought → List Entry
+kept s run = gathered (λ earlier i. keeps (reached s earlier) i) run
 
-  module _ (earlier : List Brought) (i : Brought) where
-    abbrev s : Handled
-    s = reached begin earlier
+-- ── It is what is gathered below ──
+module _ (begin : Handled) (earlier : List Brought) (i : Brought) where
+  abbrev now : Handled
+  now = reached begin earlier
 
-    abbrev then : List Brought → Brought → List Entry
-    then l j = brought-adds P B lo hi few setting timeout (l ++ cutDown begin earlier) j
+  abbrev then : List Brought → Brought → List Entry
+  then l j = brought-adds (begin .predicted) (l ++ cutDown begin earlier) j
 
-    one-adds : (j : Brought) → answerBelow (s .predicted) (j ∷ []) ≡ 0 → gathered then (j ∷ []) ≡ took (j ∷ [])
-    unfolding answerBelow took
-    one-adds j z =
-        one-gathered then j
-        ∙ ap (λ w. taken w (j .timed .input))
-        (ap (λ (p : Predicted). eqb (wafers.answerIn p j) 0) (below begin earlier) ∙ eq-eqb _ 0 z)
+  one-adds : (j : Brought) → answerBelow (now .predicted) (j ∷ []) ≡ 0 → gathered then (j ∷ []) ≡ took (j ∷ [])
+  unfolding answerBelow took
+  one-adds j z =
+      one-gathered then j
+      ∙ ap (λ w. taken w (j .timed .input))
+      (ap (λ (p : Predicted). eqb (wafers.answerIn p j) 0) (below begin earlier) ∙ eq-eqb _ 0 z)
 
-    same-here : gathered then (standsFor s i) ≡ keeps s i
-    unfolding standsFor keeps gathered took
-    same-here = go (eqb (answerIn s i) 0) refl
-      where
-        rows : answerBelow (s .predicted) (rowIn s i .stands) ≡ 0 → gathered then (rowIn s i .stands) ≡ took (rowIn s i .stands)
-        rows =
-            stands-or (i .timed .input .number) _ _ i (λ l. answerBelow (s .predicted) l ≡ 0 → gathered then l ≡ took l)
-            (λ _ _ _. refl) (λ _. one-adds _) (λ _ _. one-adds i)
+  same-here : gathered then (standsFor now i) ≡ keeps now i
+  unfolding standsFor keeps gathered took
+  same-here = go (eqb (answerIn now i) 0) refl
+    where
+      rows : answerBelow (now .predicted) (rowIn now i .stands) ≡ 0 → gathered then (rowIn now i .stands) ≡ took (rowIn now i .stands)
+      rows =
+          stands-or (i .timed .input .number) _ _ i (λ l. answerBelow (now .predicted) l ≡ 0 → gathered then l ≡ took l)
+          (λ _ _ _. refl) (λ _. one-adds _) (λ _ _. one-adds i)
 
-        go : (w : Bool) → eqb (answerIn s i) 0 ≡ w → gathered then (cond w (rowIn s i .stands) []) ≡ cond w (took (rowIn s i .stands)) []
-        go true a = rows (below-accepts s i (eqb-true _ 0 a))
-        go false a = refl
+      go : (w : Bool) → eqb (answerIn now i) 0 ≡ w → gathered then (cond w (rowIn now i .stands) []) ≡ cond w (took (rowIn now i .stands)) []
+      go true a = rows (below-accepts now i (eqb-true _ 0 a))
+      go false a = refl
 
-  -- what is gathered, latest first
-  abbrev pub kept : List Brought → List Entry
-  kept run = gathered (λ earlier i. keeps (reached begin earlier) i) run
+-- and so of document 01's run, which reaches the same ports and carriers
+module _ (P B setting timeout : ℕ) (lo : 1 ≤ P) (hi : P ≤ 4) (few : B ≤ 16) (run : List Brought) where
+  abbrev first : Handled
+  first = start P B setting timeout
 
-  module _ (run : List Brought) where
-    -- it is what document 01's run has, which reaches the same ports and carriers
-    same-all : gathered (adds P B) (lowered P B lo hi few setting timeout (cutDown begin run)) ≡ kept run
-    unfolding cutDown
-    same-all =
-        same-below P B lo hi few setting timeout (cutDown begin run)
-        ∙ same-gathered (brought-adds P B lo hi few setting timeout) (λ earlier i. keeps (reached begin earlier) i)
-        (cutDown begin) (λ earlier i. standsFor (reached begin earlier) i) refl (λ _ _. refl) same-here run
+  abbrev lowest : List Input
+  lowest = lowered P B (cutDown first run)
 
-    abbrev same-state : base-runs.reached (base-state.start P B) (lowered P B lo hi few setting timeout (cutDown begin run)) ≡ baseOf (reached begin run)
-    same-state = projected P B setting timeout lo hi few run
+  same-kept : gathered (adds (base-state.start P B)) lowest ≡ kept first run
+  unfolding cutDown
+  same-kept =
+      same-below P B setting timeout lo hi few (cutDown first run)
+      ∙ same-gathered (brought-adds (first .predicted)) (λ earlier i. keeps (reached first earlier) i)
+      (cutDown first) (λ earlier i. standsFor (reached first earlier) i) refl (λ _ _. refl) (same-here first) run
 
-    pub mode-kept : (p : ℕ) → portOf (baseOf (reached begin run)) p .access ≡ modeOf p (kept run)
-    mode-kept p = ap (λ t. portOf t p .access) (sym same-state) ∙ mode-run P B lo hi few p _ ∙ ap (modeOf p) same-all
+  same-state : base-runs.reached (base-state.start P B) lowest ≡ baseOf (reached first run)
+  same-state = projected P B setting timeout lo hi few run
 
-    pub load-kept : (p : ℕ) → loading (portOf (baseOf (reached begin run)) p) ≡ loadingRead p (kept run)
-    load-kept p = ap (λ t. loading (portOf t p)) (sym same-state) ∙ load-run P B lo hi few p _ ∙ ap (loadingRead p) same-all
+  pub mode-kept : (p : ℕ) → portOf (baseOf (reached first run)) p .access ≡ modeOf p (kept first run)
+  mode-kept p = ap (λ t. portOf t p .access) (sym same-state) ∙ mode-run P B lo hi few p lowest ∙ ap (modeOf p) same-kept
 
-    pub count-kept : tally.cameIn (kept run) ≡ wentOut (kept run) + podsHere (baseOf (reached begin run))
-    count-kept =
-        let c = tally-proofs.counted P B lo hi few (lowered P B lo hi few setting timeout (cutDown begin run)) .all in
-        let a = sym (came-run P B (lowered P B lo hi few setting timeout (cutDown begin run))) ∙ c in
-        let w = went-run P B (lowered P B lo hi few setting timeout (cutDown begin run)) in
-        ap tally.cameIn (sym same-all) ∙ a ∙ ap₂ _+_ (w ∙ ap wentOut same-all) (ap podsHere same-state)
+  pub load-kept : (p : ℕ) → loading (portOf (baseOf (reached first run)) p) ≡ loadingRead p (kept first run)
+  load-kept p = ap (λ t. loading (portOf t p)) (sym same-state) ∙ load-run P B lo hi few p lowest ∙ ap (loadingRead p) same-kept
 
-  -- ── The log says the same ──
-  pub mode-log : (p : ℕ) (run : List Brought) → modeOf p (entries begin run) ≡ modeOf p (kept run)
+  pub count-kept : tally.cameIn (kept first run) ≡ wentOut (kept first run) + podsHere (baseOf (reached first run))
+  count-kept =
+      ap tally.cameIn (sym same-kept)
+      ∙ sym (came-run (base-state.start P B) lowest)
+      ∙ tally-proofs.counted P B lo hi few lowest .all
+      ∙ ap₂ _+_ (went-run (base-state.start P B) lowest ∙ ap wentOut same-kept) (ap podsHere same-state)
+
+-- ── The log says the same ──
+module _ (s : Handled) where
+  pub mode-log : (p : ℕ) (run : List Brought) → modeOf p (entries s run) ≡ modeOf p (kept s run)
   unfolding entries gathered modeOf took taken
   mode-log p [] = refl
   mode-log p (i ∷ earlier) =
-      let s = reached begin earlier in
+      let t = reached s earlier in
       let n = i .timed .input .number in
       let port = narrow (i .timed .input .port) in
       let value = narrow (i .timed .input .value) in
-      keeps-or s i
-      (λ l. cond (eqb (answerIn s i) 0 && eqb n 9 && eqb port p) value (modeOf p (entries begin earlier)) ≡ modeOf p (l ++ kept earlier))
+      keeps-or t i
+      (λ l. cond (eqb (answerIn t i) 0 && eqb n 9 && eqb port p) value (modeOf p (entries s earlier)) ≡ modeOf p (l ++ kept s earlier))
       (record {
         refused = λ a. rw a (mode-log p earlier);
         held = λ a e _. rw (a, ap (λ k. eqb k 9) e) (mode-log p earlier);
         continues = λ a e. rw (a, ap (λ k. eqb k 9) e) (mode-log p earlier);
-        itself = λ a _ _. rw (a, mode-log p earlier) (sym (mode-taken (i .timed .input) (kept earlier) p true));
+        itself = λ a _ _. rw (a, mode-log p earlier) (sym (mode-taken (i .timed .input) (kept s earlier) p true));
+      })
+
+  pub went-log : (run : List Brought) → wentOut (entries s run) ≡ wentOut (kept s run)
+  unfolding entries gathered wentOut howMany took taken
+  went-log [] = refl
+  went-log (i ∷ earlier) =
+      let t = reached s earlier in
+      let n = i .timed .input .number in
+      let r = went-log earlier in
+      keeps-or t i
+      (λ l. one (eqb (answerIn t i) 0 && eqb n 25) + wentOut (entries s earlier) ≡ wentOut (l ++ kept s earlier))
+      (record {
+        refused = λ a. rw a (omega arith);
+        held = λ a e _. rw (a, ap (λ k. eqb k 25) e) (omega arith);
+        continues = λ a e. rw (a, ap (λ k. eqb k 25) e) (omega arith);
+        itself = λ a _ _. rw (a, r) (sym (went-taken (i .timed .input) (kept s earlier) true));
       })

@@ -98,37 +98,38 @@ all-new (suc n) zero = (refl, refl)
 all-new (suc n) (suc k) = all-new n k
 
 -- ── Runs ──
-module _ (P B : ℕ) where
+-- what an input adds after a run from s
+abbrev pub adds : State → List Input → Input → List Entry
+adds s earlier i = taken (eqb (answerIn (reached s earlier) i) 0) i
+
+pub came-run : (s : State) (run : List Input) → cameIn (entries s run) ≡ cameIn (gathered (adds s) run)
+unfolding entries gathered cameIn howMany
+came-run s [] = refl
+came-run s (i ∷ earlier) =
+    ap (λ n. one (eqb (answerIn (reached s earlier) i) 0 && eqb (i .number) 14) + n) (came-run s earlier) ∙ sym (came-taken i _ _)
+
+pub went-run : (s : State) (run : List Input) → wentOut (entries s run) ≡ wentOut (gathered (adds s) run)
+unfolding entries gathered wentOut howMany
+went-run s [] = refl
+went-run s (i ∷ earlier) =
+    ap (λ n. one (eqb (answerIn (reached s earlier) i) 0 && eqb (i .number) 25) + n) (went-run s earlier) ∙ sym (went-taken i _ _)
+
+module _ (P B : ℕ) (a : 1 ≤ P) (b : P ≤ 4) (c : B ≤ 16) (p : ℕ) where
   abbrev at : List Input → State
   at run = reached (start P B) run
 
-  -- what an input of document 01 adds
-  abbrev pub adds : List Input → Input → List Entry
-  adds earlier i = taken (eqb (answerIn (at earlier) i) 0) i
+  pub mode-run : (run : List Input) → portOf (at run) p .access ≡ modeOf p (gathered (adds (start P B)) run)
+  unfolding reached portOf gathered modeOf
+  mode-run [] = all-new P (spotOf p) .0
+  mode-run (i ∷ earlier) =
+      mode-after (at earlier) i (sound-run P B a b c earlier) p
+      ∙ ap (λ m. cond (eqb (answerIn (at earlier) i) 0 && (eqb (i .number) 9 && eqb (narrow (i .port)) p)) (narrow (i .value)) m) (mode-run earlier)
+      ∙ sym (mode-taken i _ p _)
 
-  pub came-run : (run : List Input) → cameIn (entries (start P B) run) ≡ cameIn (gathered adds run)
-  unfolding entries gathered cameIn howMany
-  came-run [] = refl
-  came-run (i ∷ earlier) = ap (λ n. one (eqb (answerIn (at earlier) i) 0 && eqb (i .number) 14) + n) (came-run earlier) ∙ sym (came-taken i _ _)
-
-  pub went-run : (run : List Input) → wentOut (entries (start P B) run) ≡ wentOut (gathered adds run)
-  unfolding entries gathered wentOut howMany
-  went-run [] = refl
-  went-run (i ∷ earlier) = ap (λ n. one (eqb (answerIn (at earlier) i) 0 && eqb (i .number) 25) + n) (went-run earlier) ∙ sym (went-taken i _ _)
-
-  module _ (a : 1 ≤ P) (b : P ≤ 4) (c : B ≤ 16) (p : ℕ) where
-    pub mode-run : (run : List Input) → portOf (at run) p .access ≡ modeOf p (gathered adds run)
-    unfolding reached portOf gathered modeOf
-    mode-run [] = all-new P (spotOf p) .0
-    mode-run (i ∷ earlier) =
-        mode-after (at earlier) i (sound-run P B a b c earlier) p
-        ∙ ap (λ m. cond (eqb (answerIn (at earlier) i) 0 && (eqb (i .number) 9 && eqb (narrow (i .port)) p)) (narrow (i .value)) m) (mode-run earlier)
-        ∙ sym (mode-taken i _ p _)
-
-    pub load-run : (run : List Input) → loading (portOf (at run) p) ≡ loadingRead p (gathered adds run)
-    unfolding reached portOf gathered loadingRead
-    load-run [] = all-new P (spotOf p) .1
-    load-run (i ∷ earlier) =
-        load-after (at earlier) i (sound-run P B a b c earlier) p
-        ∙ ap (λ l. cond (eqb (answerIn (at earlier) i) 0 && (turnsLoad (i .number) && eqb (narrow (i .port)) p)) (eqb (i .number) 13) l) (load-run earlier)
-        ∙ sym (load-taken i _ p _)
+  pub load-run : (run : List Input) → loading (portOf (at run) p) ≡ loadingRead p (gathered (adds (start P B)) run)
+  unfolding reached portOf gathered loadingRead
+  load-run [] = all-new P (spotOf p) .1
+  load-run (i ∷ earlier) =
+      load-after (at earlier) i (sound-run P B a b c earlier) p
+      ∙ ap (λ l. cond (eqb (answerIn (at earlier) i) 0 && (turnsLoad (i .number) && eqb (narrow (i .port)) p)) (eqb (i .number) 13) l) (load-run earlier)
+      ∙ sym (load-taken i _ p _)
