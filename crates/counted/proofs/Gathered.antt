@@ -58,9 +58,9 @@ done i = record { input = i; answer = 0 }
 unfoldable pub taken : Bool → Input → List Entry
 taken a i = cond (matters (i .number)) (cond a (done i ∷ []) []) []
 
-pub taken-idle : (a : Bool) (i : Input) → matters (i .number) ≡ false → taken a i ≡ []
+pub taken-aside : (a : Bool) (i : Input) → matters (i .number) ≡ false → taken a i ≡ []
 unfolding taken
-taken-idle a i m = rw m
+taken-aside a i m = rw m
 
 pub taken-refused : (i : Input) → taken false i ≡ []
 unfolding taken
@@ -76,14 +76,14 @@ loadingRead p [] = false
 loadingRead p (e ∷ earlier) = cond (turnsLoad (e .input .number) && eqb (portIn e) p) (eqb (e .input .number) 13) (loadingRead p earlier)
 
 -- what an input that doesn't matter isn't
-pub record Idle (n : ℕ) : Type 0 where
+pub record Aside (n : ℕ) : Type 0 where
   pub access : eqb n 9 ≡ false
   pub load : turnsLoad n ≡ false
   pub loadDone : eqb n 14 ≡ false
   pub unloadDone : eqb n 25 ≡ false
 
-pub idle : (n : ℕ) → matters n ≡ false → Idle n
-idle n e =
+pub aside : (n : ℕ) → matters n ≡ false → Aside n
+aside n e =
     let l = or-false-r (eqb n 9) (turnsLoad n) (or-false-l (eqb n 9 || turnsLoad n) _ e) in
     record {
       access = or-false-l _ _ (or-false-l (eqb n 9 || turnsLoad n) _ e);
@@ -93,8 +93,8 @@ idle n e =
     }
 
 -- no input that a request adds matters
-pub late-idle : (n : ℕ) → 26 ≤ n → matters n ≡ false
-late-idle n b =
+pub late-aside : (n : ℕ) → 26 ≤ n → matters n ≡ false
+late-aside n b =
     rw (
       ne-eqb n 9 (λ z. omega arith),
       ne-eqb n 13 (λ z. omega arith),
@@ -123,7 +123,7 @@ module _ (i : Input) (log : List Entry) where
   unfolding modeOf
   mode-taken p =
       taken-or (λ a l. modeOf p l ≡ cond (a && (eqb (i .number) 9 && eqb (narrow (i .port)) p)) (narrow (i .value)) (modeOf p log))
-      refl (λ m. rw (idle (i .number) m .access)) refl
+      refl (λ m. rw (aside (i .number) m .access)) refl
 
   pub load-taken : (p : ℕ) (a : Bool)
       → loadingRead p (taken a i ++ log)
@@ -132,16 +132,16 @@ module _ (i : Input) (log : List Entry) where
   load-taken p =
       taken-or
       (λ a l. loadingRead p l ≡ cond (a && (turnsLoad (i .number) && eqb (narrow (i .port)) p)) (eqb (i .number) 13) (loadingRead p log))
-      refl (λ m. rw (idle (i .number) m .load)) refl
+      refl (λ m. rw (aside (i .number) m .load)) refl
 
   pub came-taken : (a : Bool) → cameIn (taken a i ++ log) ≡ one (a && eqb (i .number) 14) + cameIn log
   unfolding cameIn howMany
   came-taken =
       taken-or (λ a l. cameIn l ≡ one (a && eqb (i .number) 14) + cameIn log) refl
-      (λ m. rw (idle (i .number) m .loadDone) (omega arith)) (omega arith)
+      (λ m. rw (aside (i .number) m .loadDone) (omega arith)) (omega arith)
 
   pub went-taken : (a : Bool) → wentOut (taken a i ++ log) ≡ one (a && eqb (i .number) 25) + wentOut log
   unfolding wentOut howMany
   went-taken =
       taken-or (λ a l. wentOut l ≡ one (a && eqb (i .number) 25) + wentOut log) refl
-      (λ m. rw (idle (i .number) m .unloadDone) (omega arith)) (omega arith)
+      (λ m. rw (aside (i .number) m .unloadDone) (omega arith)) (omega arith)

@@ -42,7 +42,7 @@ use Rattle.wafers.specs.Outcome.{Brought, isWafers}
 use Rattle.wafers.specs.Projection as wafers-runs
 use Rattle.wafers.proofs.Projected as wafers-below
 use Rattle.tally.specs.Count.{Entry}
-use Rattle.counted.proofs.Gathered.{gathered, one-gathered, same-gathered, matters, taken, taken-idle, taken-refused, late-idle}
+use Rattle.counted.proofs.Gathered.{gathered, one-gathered, same-gathered, matters, taken, taken-aside, taken-refused, late-aside}
 use Rattle.counted.proofs.Modes.{adds}
 
 -- ── What an input adds after a run from s ──
@@ -85,7 +85,7 @@ module _ (P B : ℕ) (lo : 1 ≤ P) (hi : P ≤ 4) (few : B ≤ 16) where
             → gathered base-then (cond w (cond q (maps-runs.proceed i ∷ i ∷ []) (i ∷ [])) []) ≡ taken w i
         go true a true e =
             let k : matters (i .number) ≡ false = ap matters (maps-below.equal-twenty m i e) in
-            rw (taken-idle _ i k, taken-idle true i k) (ap (λ l. l ++ []) (taken-idle _ (maps-runs.proceed i) refl))
+            rw (taken-aside _ i k, taken-aside true i k) (ap (λ l. l ++ []) (taken-aside _ (maps-runs.proceed i) refl))
         go true a false e = one-gathered base-then i ∙ ap (λ w. taken w i) (base-accepts a)
         go false a q e = sym (taken-refused i)
 
@@ -109,8 +109,8 @@ module _ (begin : Queued) (earlier : List Input) (i : Input) where
       (ap (λ (s : Mapped). eqb (maps.answerIn s i) 0) (queue-below.below begin earlier) ∙ last-zero (q .mapped) i [] z)
 
   -- for none, or for inputs that don't matter: 7, 11 and 12
-  idle-adds : (n : ℕ) → i .number ≡ n → matters n ≡ false → {l : List Entry} → l ≡ [] → l ≡ taken true i
-  idle-adds n e k z = z ∙ sym (taken-idle true i (ap matters e ∙ k))
+  aside-adds : (n : ℕ) → i .number ≡ n → matters n ≡ false → {l : List Entry} → l ≡ [] → l ≡ taken true i
+  aside-adds n e k z = z ∙ sym (taken-aside true i (ap matters e ∙ k))
 
   out : (w : Bool) (r : Request) → gathered maps-then (cond w (queue-rows.comesOut r i) []) ≡ []
   unfolding gathered taken
@@ -122,16 +122,16 @@ module _ (begin : Queued) (earlier : List Input) (i : Input) where
   rows-add =
       queue-walk.walk Adds (i .number) (queue-state.baseOf q) (q .queue) (see (queue-state.baseOf q) i) i (record {
         cancelCarrier = λ _. itself;
-        carrierOut = λ e _. idle-adds 7 e refl refl;
+        carrierOut = λ e _. aside-adds 7 e refl refl;
         cancelReservationAtPort = λ _. itself;
         loadStart = λ _. itself;
         openRow = λ _. itself;
-        outStart = λ e _. idle-adds 27 e refl refl;
+        outStart = λ e _. aside-adds 27 e refl refl;
         outDone = λ e _.
-            idle-adds 28 e refl (out (any (startedTo (see (queue-state.baseOf q) i .port)) (q .queue))
+            aside-adds 28 e refl (out (any (startedTo (see (queue-state.baseOf q) i .port)) (q .queue))
             (getD (q .queue) (startedStands (see (queue-state.baseOf q) i .port) (q .queue)) noRequest));
-        cancelCarrierOut = λ e _. idle-adds 29 e refl refl;
-        cancelAllCarrierOut = λ e _. idle-adds 30 e refl refl;
+        cancelCarrierOut = λ e _. aside-adds 29 e refl refl;
+        cancelAllCarrierOut = λ e _. aside-adds 30 e refl refl;
         other = λ _. itself;
       })
 
@@ -167,7 +167,7 @@ module _ (begin : Predicted) (earlier : List Timed) (i : Timed) where
   queue-same = go (isTimed (i .input .number)) refl
     where
       go : (w : Bool) → isTimed (i .input .number) ≡ w → gathered queue-then (cond w [] (i .input ∷ [])) ≡ timed-adds begin earlier i
-      go true t = let b = leb-true 31 (i .input .number) (and-l _ _ t) in sym (taken-idle _ (i .input) (late-idle (i .input .number) (omega arith)))
+      go true t = let b = leb-true 31 (i .input .number) (and-l _ _ t) in sym (taken-aside _ (i .input) (late-aside (i .input .number) (omega arith)))
       go false t =
           one-gathered queue-then (i .input)
           ∙ ap (λ n. taken (eqb n 0) (i .input))
@@ -185,7 +185,7 @@ module _ (begin : Predicted) (earlier : List Brought) (i : Brought) where
     where
       none : isWafers i ≡ true → [] ≡ brought-adds begin earlier i
       none w =
-          sym (taken-idle (eqb (wafers.answerIn (wafers.reached begin earlier) i) 0) (i .timed .input)
+          sym (taken-aside (eqb (wafers.answerIn (wafers.reached begin earlier) i) 0) (i .timed .input)
           (ap matters (eqb-true (i .timed .input .number) 35 w)))
 
       go : (w : Bool) → isWafers i ≡ w → (g : Bool)

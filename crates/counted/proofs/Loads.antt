@@ -16,6 +16,7 @@ use Rattle.rules.specs.Row.{judge}
 use Rattle.rules.specs.Transfer.{loadStart}
 use Rattle.rules.specs.Rows as base
 use Rattle.rules.proofs.Accepts.{clear}
+use Rattle.maps.specs.Projection as maps-runs
 use Rattle.maps.proofs.Amended.{accepted-there}
 use Rattle.queue.specs.State.{Queued}
 use Rattle.queue.specs.Rows as queue-rows
@@ -26,12 +27,10 @@ use Rattle.wafers.specs.Outcome as wafers
 use Rattle.wafers.specs.Outcome.{Brought}
 use Rattle.hands.specs.State.{Handled, baseOf}
 use Rattle.hands.specs.Rows.{LoadDone}
-use Rattle.hands.specs.Outcome.{rowIn, answerBelow, answerIn, reached}
+use Rattle.hands.specs.Outcome.{answerBelow, answerIn}
 use Rattle.hands.specs.Host as host
 use Rattle.hands.specs.Host.{stepOf}
-use Rattle.maps.specs.Projection as maps-runs
 use Rattle.tally.specs.Count.{Entry}
-use Rattle.counted.specs.Count.{doneAt}
 use Rattle.counted.proofs.Gathered.{turnsLoad, taken, loadingRead, load-taken}
 use Rattle.counted.proofs.Lowered.{stands-or, took, keeps, below-accepts, keeps-or}
 
