@@ -58,7 +58,7 @@ answer-is : (t : Whole) (i : Brought) → soundWhole t ≡ true → tool.outcome
 answer-is t i h = ap (λ o. o .answer) (sym (when-sound t i h)) ∙ given-answer (t .layered) i
 
 -- as the rows saw them
-unfoldable inputs : List Call → List Brought
+unfoldable pub inputs : List Call → List Brought
 inputs [] = []
 inputs (c ∷ earlier) = taken (c .sent) (c .answer) ++ inputs earlier
 
@@ -150,7 +150,7 @@ module _ (before : List (List ℕ)) (answer : ℕ) (after : List (List ℕ)) (re
 
 module _ (P B setting timeout : ℕ) where
   -- a run begins with a set-up that was accepted
-  set-up : (calls : List Call) (bytes : List (List ℕ)) → Left P B setting timeout calls bytes → setUp P B setting timeout .answer ≡ 0
+  pub set-up : (calls : List Call) (bytes : List (List ℕ)) → Left P B setting timeout calls bytes → setUp P B setting timeout .answer ≡ 0
   unfolding Left
   set-up [] bytes l = sym (l .answered)
   set-up (c ∷ earlier) bytes l = set-up earlier (c .before) (l .0)
@@ -168,12 +168,12 @@ module _ (P B setting timeout : ℕ) where
     sound-is : soundWhole (wholeIn bytes) ≡ true
     sound-is = ap soundWhole (tool-is calls bytes l) ∙ tool-sound P B setting timeout (set-up calls bytes l) (inputs calls)
 
-    state-is : stateIn bytes ≡ reached (start P B setting timeout) (inputs calls)
+    pub state-is : stateIn bytes ≡ reached (start P B setting timeout) (inputs calls)
     state-is =
         ap (λ t. stateOf (t .layered)) (tool-is calls bytes l) ∙ tool-holds P B setting timeout (set-up calls bytes l) (inputs calls)
 
   -- what happened in the calls is what happens by the definitions
-  events-are : (calls : List Call) (bytes : List (List ℕ)) → Left P B setting timeout calls bytes
+  pub events-are : (calls : List Call) (bytes : List (List ℕ)) → Left P B setting timeout calls bytes
       → happened calls ≡ events (start P B setting timeout) (inputs calls)
   unfolding Left happened inputs events
   events-are [] bytes l = refl

@@ -1,5 +1,5 @@
 -- What a caller of the library sees: bytes, inputs, answers and reports, and what is promised of a run of calls.
-use Prim.Native.Nat.{ℕ, _+_, _≤_, _<_}
+use Prim.Native.Nat.{ℕ, _+_, _-_, _≤_, _<_}
 use mathlib.Core.Path.{_≡_}
 use mathlib.Core.Bool.{true, cond}
 use mathlib.Core.List.{List, [], _∷_, _++_, map}
@@ -11,12 +11,14 @@ use Rattle.rules.specs.Seen.{inputOf, see}
 use Rattle.rules.specs.Undoing.{Pair, isPair}
 use Rattle.rules.specs.History.{Event, history}
 use Rattle.rules.specs.Promise.{Live, Orderly}
+use Rattle.tally.specs.Count.{Entry, wentOut, podsHere}
 use Rattle.image.specs.Image.{byteAt, toolFrom, reportsFrom}
 use Rattle.logs.specs.Judging.{Judgement}
 use Rattle.prediction.specs.State.{timed}
 use Rattle.prediction.specs.Outcome.{isTimed}
 use Rattle.wafers.specs.Outcome.{Brought, brought}
 use Rattle.hands.specs.State.{Handled, baseOf, stateOf}
+use Rattle.counted.specs.Count.{cameIn}
 use Rattle.maps.specs.Promise.{Earned}
 use Rattle.tool.specs.Whole.{wholeIn, soundWhole, setUp}
 use Rattle.door.specs.Door.{shown, outcome}
@@ -153,3 +155,13 @@ pub record ArePair (p : Pair) (before : List (List ℕ)) (i j : Brought) : Type 
 pub record Undone (before : List (List ℕ)) (answer : ℕ) (after : List (List ℕ)) : Type 0 where
   pub accepted : answer ≡ 0
   pub bytes : SameTool after before
+
+-- ── Pods in, pods out ──
+-- What logistics sees of a run of calls: the inputs that rows saw, and the answers.
+abbrev pub logged : List Call → List Entry
+logged calls = map (λ e. record { input = e .input; answer = e .answer }) (happened calls)
+
+-- The pods at ports and the carriers in the buffer, in the bytes that a run of calls left, are those that came in and didn't go out.
+pub record PodsCounted (calls : List Call) (bytes : List (List ℕ)) : Type 0 where
+  pub all : cameIn (logged calls) ≡ wentOut (logged calls) + podsHere (baseOf (stateIn bytes))
+  pub less : cameIn (logged calls) - wentOut (logged calls) ≡ podsHere (baseOf (stateIn bytes))
