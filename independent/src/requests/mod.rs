@@ -15,10 +15,12 @@
 //! - P8, where Tp comes from: [`wafers`], which gives Tp as a total of times.
 //! - P9, hands on an AUTO port: [`alarms`], which has a row of its own, and LoadDone where the alarm is on.
 //! - P10, undoing pairs: [`undo`], which is a table and changes nothing.
+//! - P11, pods in, pods out: [`pods`], which counts a run and changes nothing.
 
 pub mod alarms;
 mod maps;
 pub mod names;
+pub mod pods;
 pub mod predict;
 pub mod queue;
 pub mod reply;

@@ -2,6 +2,7 @@
 
 mod changed;
 mod plain;
+mod pods;
 mod readings;
 mod written;
 

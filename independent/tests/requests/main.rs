@@ -12,6 +12,7 @@ mod plain_alarms;
 mod plain_predict;
 mod plain_queue;
 mod plain_wafers;
+mod pods;
 mod predict;
 mod queue;
 mod runs;

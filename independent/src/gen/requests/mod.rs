@@ -2,6 +2,7 @@
 
 mod alarms;
 mod befalls;
+mod counted;
 mod foretells;
 mod maps;
 mod names;
@@ -23,6 +24,7 @@ use crate::requests::{self, Tool, UNUSED};
 use crate::Reports;
 
 pub use befalls::{befalls, BEFALLS};
+pub use counted::{counted, COUNTED};
 pub use foretells::{foretells, FORETELLS};
 pub use names::random_text;
 pub use predict::random_times;
