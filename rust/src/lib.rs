@@ -39,7 +39,8 @@
 //! The log of another maker's tool is judged by document 01 as it stands before any request: [`judge()`] (request P14).
 //!
 //! An operator panel asks every frame whether some carrier waits for the host: [`Tool::waiting`], or [`waiting`] for a
-//! table of records (document 02's request P2).
+//! table of records (document 02's request P2). Logistics counts the pods that came in and went out by inputs and
+//! answers: [`Pods`] (request P11).
 //!
 //! No input is too odd: numbers are 32 bits and are not cut, names, codes and messages may be any bytes of any length,
 //! a [`Wafer`] may have any times, NaN too, and a [`Tool`] may be made of any bytes. A refusal leaves the tool as it
@@ -60,6 +61,7 @@ mod judge;
 mod machine;
 mod map;
 mod name;
+mod pods;
 mod prediction;
 pub mod raw;
 mod refusal;
@@ -79,6 +81,7 @@ pub use input::{Input, Parts};
 pub use judge::{judge, LogRefusal, Verdict};
 pub use map::{ExpectedMap, MapError};
 pub use name::{Name, NameError, NAME_BYTES, TEXT_BYTES};
+pub use pods::Pods;
 pub use prediction::{Prediction, SECONDS_MOST};
 pub use raw::{secs_at, CARRIER_BYTES, REPORTS_BYTES, TOOL_01_BYTES, TOOL_BYTES};
 pub use refusal::Refusal;
