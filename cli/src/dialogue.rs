@@ -2,6 +2,7 @@
 //! inputs back, saves and loads the tool's bytes, and compares what was printed with what was expected.
 use crate::explain;
 use crate::player::Player;
+use crate::pods::Played;
 use crate::script::{self, Command};
 use crate::soundness;
 use crate::values::shown;
@@ -25,8 +26,8 @@ pub struct Turn {
 pub struct Dialogue {
     player: Player,
     check: bool,
-    /// The tools before each change, the latest last, with the line that changed it.
-    before: VecDeque<(Tool, String)>,
+    /// The tools and the counts of their pods before each change, the latest last, with the line that changed them.
+    before: VecDeque<(Played, String)>,
     /// The lines that the last command printed and no `expect` has been held to yet.
     unread: VecDeque<String>,
     /// How many lines were expected, and how many of them weren't printed.
@@ -57,8 +58,9 @@ impl Dialogue {
             Command::Save(file) => self.save(&file)?,
             Command::Load(file) => self.load(&file, line)?,
             Command::Undo => self.undo(),
+            Command::Pods => self.player.pods()?,
             command => {
-                let before = self.player.tool().clone();
+                let before = self.player.now().clone();
                 let printed = self.player.play(&command);
                 self.keep(before, line);
                 printed
@@ -68,9 +70,9 @@ impl Dialogue {
         Ok(Turn { printed, unmet: None })
     }
 
-    /// Keeps the tool that was before a line, if the line has changed it.
-    fn keep(&mut self, before: Tool, line: &[u8]) {
-        if before == *self.player.tool() {
+    /// Keeps what was before a line, if the line has changed the tool or the count of its pods.
+    fn keep(&mut self, before: Played, line: &[u8]) {
+        if before == *self.player.now() {
             return;
         }
         if self.before.len() == KEPT {
@@ -82,8 +84,8 @@ impl Dialogue {
     fn undo(&mut self) -> String {
         match self.before.pop_back() {
             None => "undo none\n".into(),
-            Some((tool, line)) => {
-                self.player.replace(tool);
+            Some((before, line)) => {
+                self.player.replace(before);
                 format!("undo {line}\n")
             }
         }
@@ -109,7 +111,7 @@ impl Dialogue {
             .as_slice()
             .try_into()
             .map_err(|_| format!("{name}: it has {more}{length} bytes, and a tool has {TOOL_BYTES}"))?;
-        let before = self.player.replace(Tool::from_bytes(bytes));
+        let before = self.player.replace(Played::loaded(Tool::from_bytes(bytes)));
         self.keep(before, line);
         Ok(self.loaded())
     }
@@ -231,6 +233,39 @@ mod tests {
         }
         assert_eq!(printed(&mut dialogue, &["undo"]), format!("undo {}\n", shown(load.as_bytes())));
         fs::remove_file(file).unwrap();
+    }
+
+    /// The count goes on through what prints, is taken back with what changed it, and isn't known after a load.
+    #[test]
+    fn pods_are_counted_since_the_set_up() {
+        let file = file("pods");
+        let (save, load) = (format!("save {}", file.display()), format!("load {}", file.display()));
+        let mut dialogue = dialogue(&["setup 1 0", "LoadStart 1", "LoadDone 1", "dump", "LoadDone 1"]);
+        assert_eq!(printed(&mut dialogue, &["pods"]), "pods 1 0 1 0\n");
+        printed(&mut dialogue, &[&save, &load]);
+        assert_eq!(printed(&mut dialogue, &["pods"]), "pods - - 1 0\n");
+        let undone = format!("undo {}\npods 1 0 1 0\n", shown(load.as_bytes()));
+        assert_eq!(printed(&mut dialogue, &["undo", "pods"]), undone);
+        assert_eq!(printed(&mut dialogue, &["undo", "pods"]), "undo LoadDone 1\npods 0 0 0 0\n");
+        printed(
+            &mut dialogue,
+            &["in 14 1 0 - -", "IdRead 1 A", "CancelCarrier A 1", "UnloadStart 1", "UnloadDone 1"],
+        );
+        assert_eq!(printed(&mut dialogue, &["pods"]), "pods 1 1 0 0\n");
+        // The tool is as after its set-up: a second one changes the count alone, and is taken back as well.
+        assert_eq!(printed(&mut dialogue, &["setup 1 0", "pods"]), "setup 0\npods 0 0 0 0\n");
+        assert_eq!(printed(&mut dialogue, &["undo", "pods"]), "undo setup 1 0\npods 1 1 0 0\n");
+        fs::remove_file(file).unwrap();
+    }
+
+    #[test]
+    fn pods_need_a_tool() {
+        let mut dialogue = dialogue(&[]);
+        assert!(dialogue.take(b"pods").unwrap_err().contains("set one up with setup P B"));
+        printed(&mut dialogue, &["setup 1 0", "setup 5 0"]);
+        assert!(dialogue.take(b"pods").is_err());
+        printed(&mut dialogue, &["undo"]);
+        assert_eq!(printed(&mut dialogue, &["pods"]), "pods 0 0 0 0\n");
     }
 
     fn unmet(dialogue: &mut Dialogue, line: &str) -> Option<String> {

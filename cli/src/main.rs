@@ -17,6 +17,7 @@ mod numbers;
 mod options;
 mod people;
 mod player;
+mod pods;
 mod predictions;
 mod print;
 mod progress;

@@ -154,9 +154,11 @@ begins with #, prints nothing.
   dump                              the whole state, for programs
   state                             the same, for people
   waiting                           the first carrier that waits for the host
+  pods                              the pods that came in and went out since the set-up, and those here
   save FILE                         the tool's bytes to a file
   load FILE                         the tool from such a file, sound or not
-  undo                              takes back the last line that changed the tool, up to 1000 of them
+  undo                              takes back the last line that changed the tool, up to 1000 of them,
+                                    and the count of its pods with it
   expect WORD..                     what the line before must have printed; a last word .. stands for any
                                     more. Of several such lines each is held to one line that was printed
 
@@ -192,6 +194,9 @@ dump prints    port I TRANSFER ACCESS RESERVED TIE MOVEMENT POD TAG
                end
 waiting prints waiting POSITION READ, or waiting none READ   the place of the first record, from 0,
                whose carrier waits for the host, and how many records were read to know
+pods prints    pods IN OUT PORTS BUFFER   IN: LoadDone without those that were held, and Continue; OUT:
+               UnloadDone; - and - for a tool that was loaded. IN less OUT is PORTS, the pods at ports,
+               plus BUFFER, the carriers in the buffer; a run in which it isn't ends with status 2
 save prints    save BYTES
 load prints    load sound; load unsound and which clause fails; or load none, for a file of zeros
 undo prints    undo LINE, the line that is taken back, or undo none

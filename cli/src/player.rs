@@ -1,31 +1,41 @@
 //! The player: the tool, and what each command prints.
+use crate::pods::Played;
 use crate::print::{self, Answer};
 use crate::script::{Command, Sent, SetUp};
 use crate::{explain, message, people, reply};
 use hawsermole::{Bridged, Exchanged, Refusal, Tool};
 
-/// A tool that is played on; at first there is none.
+/// A tool that is played on, with the count of its pods; at first there is none.
 pub struct Player {
-    tool: Tool,
+    now: Played,
     explain: bool,
 }
 
 impl Player {
     pub fn new(explain: bool) -> Player {
-        Player { tool: Tool::none(), explain }
+        Player { now: Played::none(), explain }
     }
 
     pub fn tool(&self) -> &Tool {
-        &self.tool
+        &self.now.tool
+    }
+
+    pub fn now(&self) -> &Played {
+        &self.now
     }
 
     pub fn explains(&self) -> bool {
         self.explain
     }
 
-    /// Goes on with another tool, and gives the one that was there.
-    pub fn replace(&mut self, tool: Tool) -> Tool {
-        std::mem::replace(&mut self.tool, tool)
+    /// Goes on with another tool and its count, and gives what was there.
+    pub fn replace(&mut self, with: Played) -> Played {
+        std::mem::replace(&mut self.now, with)
+    }
+
+    /// What came in and went out, and what is here.
+    pub fn pods(&self) -> Result<String, String> {
+        self.now.told(self.explain)
     }
 
     /// Carries a command out and gives what it prints; those of the dialogue around it print nothing here.
@@ -38,10 +48,12 @@ impl Player {
             Command::Secs(message) => self.secs(message),
             Command::Exchange { message, room } => self.exchange(message, *room),
             Command::Reply { number, room } => self.reply(*number, *room),
-            Command::Dump => print::dump(&self.tool),
-            Command::State => people::state(&self.tool),
+            Command::Dump => print::dump(self.tool()),
+            Command::State => people::state(self.tool()),
             Command::Waiting => self.waiting(),
-            Command::Save(_) | Command::Load(_) | Command::Undo | Command::Expect(_) => String::new(),
+            Command::Pods | Command::Save(_) | Command::Load(_) | Command::Undo | Command::Expect(_) => {
+                String::new()
+            }
         }
     }
 
@@ -49,45 +61,48 @@ impl Player {
     fn setup(&mut self, SetUp { ports, places, setting, timeout }: SetUp) -> String {
         let refusal = match Tool::setup_with_times(ports, places, setting, timeout) {
             Ok(tool) => {
-                self.tool = tool;
+                self.now = Played::set_up(tool);
                 None
             }
             Err(refusal) => {
-                self.tool = Tool::none();
+                self.now = Played::none();
                 Some(refusal)
             }
         };
         let printed = format!("setup {}\n", refusal.map_or(0, |refusal| refusal.number()));
         match self.explain {
-            true => printed + &explain::setup(&self.tool, refusal),
+            true => printed + &explain::setup(self.tool(), refusal),
             false => printed,
         }
     }
 
     /// Without a tool there are no records, and none that waits.
     fn waiting(&self) -> String {
-        let found = self.tool.waiting();
+        let found = self.tool().waiting();
         let printed = print::waiting(found);
         match self.explain {
-            true => printed + &explain::waiting(&self.tool, found),
+            true => printed + &explain::waiting(self.tool(), found),
             false => printed,
         }
     }
 
     fn input(&mut self, sent: &Sent, print: fn(&Answer) -> String) -> String {
-        let (parts, before) = (sent.parts(), self.tool.clone());
-        let answer = self.tool.step_parts(&parts);
+        let (parts, before) = (sent.parts(), self.tool().clone());
+        let answer = self.now.tool.step_parts(&parts);
+        if let Some(pods) = &mut self.now.pods {
+            pods.note_parts(&parts, &answer);
+        }
         let printed = print(&answer);
         match self.explain {
-            true => printed + &explain::answer(&before, &self.tool, &parts, &answer),
+            true => printed + &explain::answer(&before, self.tool(), &parts, &answer),
             false => printed,
         }
     }
 
-    /// What was read, and where that was good the input's answer as `in` prints it.
+    /// What was read, and where that was good the input's answer as `in` prints it. No message brings a pod.
     fn secs(&mut self, bytes: &[u8]) -> String {
-        let before = self.tool.clone();
-        let Bridged { answer, items } = self.tool.secs_step(bytes);
+        let before = self.tool().clone();
+        let Bridged { answer, items } = self.now.tool.secs_step(bytes);
         let refusal = answer.as_ref().err().copied().filter(|refusal| refusal.is_of_message());
         let mut printed = format!("secs {} {items}\n", refusal.map_or(0, |refusal| refusal.number()));
         if self.explain {
@@ -98,8 +113,8 @@ impl Player {
 
     /// The same with its reply, which stands on the first line.
     fn exchange(&mut self, bytes: &[u8], room: usize) -> String {
-        let (before, mut lent) = (self.tool.clone(), vec![0; room]);
-        let Exchanged { answer, items, reply } = self.tool.secs_exchange(bytes, &mut lent);
+        let (before, mut lent) = (self.tool().clone(), vec![0; room]);
+        let Exchanged { answer, items, reply } = self.now.tool.secs_exchange(bytes, &mut lent);
         let mut printed = print::exchange(&answer, items, reply);
         if self.explain {
             let refusal = answer.as_ref().err().copied().filter(|refusal| refusal.is_of_message());
@@ -122,7 +137,7 @@ impl Player {
         match self.explain {
             true => {
                 let asked = message::asked(bytes, items);
-                printed + &explain::answer(before, &self.tool, &asked.parts(), answer)
+                printed + &explain::answer(before, self.tool(), &asked.parts(), answer)
             }
             false => printed,
         }

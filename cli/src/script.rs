@@ -31,6 +31,8 @@ pub enum Command {
     State,
     /// Is anyone waiting?
     Waiting,
+    /// Pods in, pods out.
+    Pods,
     /// Of the dialogue around the tool: its bytes to a file and from one, a change taken back, what was printed.
     Save(PathBuf),
     Load(PathBuf),
@@ -69,8 +71,9 @@ impl Sent {
     }
 }
 
-const COMMANDS: [&str; 12] = [
-    "setup", "in", "secs", "exchange", "reply", "dump", "state", "waiting", "save", "load", "undo", "expect",
+const COMMANDS: [&str; 13] = [
+    "setup", "in", "secs", "exchange", "reply", "dump", "state", "waiting", "pods", "save", "load", "undo",
+    "expect",
 ];
 const SETUP: &str = "setup P B [SETTING TIMEOUT]";
 const IN: &str = "in NUMBER PORT VALUE NAME CODES [CLOCK TIME WAFERS]";
@@ -80,6 +83,7 @@ const REPLY: &str = "reply NUMBER ROOM";
 const DUMP: &str = "dump";
 const STATE: &str = "state";
 const WAITING: &str = "waiting";
+const PODS: &str = "pods";
 const SAVE: &str = "save FILE";
 const LOAD: &str = "load FILE";
 const UNDO: &str = "undo";
@@ -99,6 +103,7 @@ pub fn read(line: &[u8]) -> Result<Command, String> {
         Some(b"dump") => words.end(DUMP).map(|()| Command::Dump),
         Some(b"state") => words.end(STATE).map(|()| Command::State),
         Some(b"waiting") => words.end(WAITING).map(|()| Command::Waiting),
+        Some(b"pods") => words.end(PODS).map(|()| Command::Pods),
         Some(b"save") => read_file(words, SAVE).map(Command::Save),
         Some(b"load") => read_file(words, LOAD).map(Command::Load),
         Some(b"undo") => words.end(UNDO).map(|()| Command::Undo),
@@ -275,6 +280,7 @@ mod tests {
         assert_eq!(read(b"dump\r\n"), Ok(Command::Dump));
         assert_eq!(read(b"\tstate "), Ok(Command::State));
         assert_eq!(read(b"waiting\n"), Ok(Command::Waiting));
+        assert_eq!(read(b" pods"), Ok(Command::Pods));
         assert_eq!(read(b"save a/b.tool\n"), Ok(Command::Save("a/b.tool".into())));
         assert_eq!(read(b"load -"), Ok(Command::Load("-".into())));
         assert_eq!(read(b"undo"), Ok(Command::Undo));

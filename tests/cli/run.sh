@@ -296,6 +296,37 @@ hands() {
     outcome "load of a pod that is held without an alarm"
 }
 
+# Pods are counted over the run that the program has played: of a tool that was loaded only what is here is known.
+pods() {
+    saved=$work/pods
+    printf 'setup 0\n0  1 1 1>3\n0  none\nsave 3782\npods 1 0 1 0\n' | want 0
+    { printf 'setup 2 0\nLoadStart 1\nLoadDone 1\n'; echo "save $saved"; echo pods; } | play
+    outcome "pods after save"
+    printf 'load sound\npods - - 1 0\n0  1 2 1>3\n0  none\npods - - 2 0\nsetup 0\npods 0 0 0 0\n' | want 0
+    { echo "load $saved"; printf 'pods\nLoadStart 2\nLoadDone 2\npods\nsetup 1 0\npods\n'; } | play
+    outcome "pods after load"
+    unknown="what came in and went out isn't known: the tool was loaded"
+    printf 'load sound\n  loaded: fixed buffer tool, 2 ports\npods - - 1 0\n  %s; 1 at ports, 0 in the buffer\n' \
+        "$unknown" | want 0
+    { echo "load $saved"; echo pods; } | play --explain
+    outcome "pods after load, explained"
+    printf 'setup 0\n0  1 1 1>3\n0  none\npods 1 0 1 0\nundo LoadDone 1\npods 0 0 0 0\n' | want 1 \
+        "hawsermole: line 9: expected 'pods 1 0 1 0', printed 'pods 0 0 0 0'" \
+        "hawsermole: 1 of 3 lines that expect aren't met"
+    {
+        printf 'setup 1 0\nLoadStart 1\nLoadDone 1\npods\nexpect pods 1 0 ..\n'
+        printf 'undo\nexpect undo LoadDone 1\npods\nexpect pods 1 0 1 0\n'
+    } | play --check
+    outcome "pods that are expected"
+    no_pods="there is no tool whose pods could be counted: set one up with setup P B"
+    want 2 "hawsermole: line 1: $no_pods" </dev/null
+    printf 'pods\nsetup 1 0\n' | play
+    outcome "pods before a set-up"
+    printf 'setup 1\nsetup 0\npods 0 0 0 0\n' | want 2 "hawsermole: line 2: $no_pods"
+    printf 'setup 5 0\npods\nsetup 1 0\npods\n' | play --keep-going
+    outcome "pods after a refused set-up, with --keep-going"
+}
+
 # A planner's dumps: each is told by the number of the first that is the same.
 backing_out() {
     echo "1 2 1 1 5 6 6 8 9 10 11 11 13 14 11 16 11" | want 0
@@ -381,6 +412,7 @@ queues
 predictions
 wafers
 hands
+pods
 backing_out
 checks
 wrong_calls
