@@ -12,6 +12,7 @@ mod machine;
 mod pairs;
 mod parts;
 mod play;
+mod pods;
 mod predict;
 mod queue;
 mod script;
@@ -105,6 +106,7 @@ fn compare(
     table.foretold = [without_buffer.foretold, from_states.foretold];
     table.totalled = [without_buffer.totalled, from_states.totalled];
     table.violated = [along_runs.violated, from_states.violated];
+    table.counted = along_runs.counted.and(&without_buffer.counted);
     table.undone = [along_runs.undone.and(&without_buffer.undone), states::undone(both, total, &rng)?];
     table.damage("every byte damaged", &damaged::every_byte(both, total, &mut rng)?);
     table.damage("parts mixed up", &damaged::mixed_up(both, total / 4, &mut rng)?);

@@ -7,6 +7,7 @@ use crate::alarms::Violated;
 use crate::laws::{padded, unlawful};
 use crate::machine::{Both, Outcome, SetUp};
 use crate::pairs::Pairs;
+use crate::pods::{Counted, Pods};
 use crate::predict::Foretold;
 use crate::queue::Befallen;
 use crate::script::{tabled, Run};
@@ -40,7 +41,7 @@ pub enum Finding {
 
 /// How many inputs were compared, how many of them were accepted, which pairs were met, how many slot maps
 /// were OK at once, how many accepted inputs had a name with blanks at its end, what befell the queues, the
-/// predictions and the alarms, what the wafers were, and what was undone.
+/// predictions, the alarms and the count of pods, what the wafers were, and what was undone.
 #[derive(Clone, Copy, Default)]
 pub struct Tally {
     pub inputs: u64,
@@ -52,6 +53,8 @@ pub struct Tally {
     pub foretold: Foretold,
     pub totalled: Totalled,
     pub violated: Violated,
+    /// Of inputs that a run goes on from.
+    pub counted: Counted,
     pub undone: Undone,
 }
 
@@ -96,6 +99,7 @@ pub struct Player<'a> {
     both: &'a Both<'a>,
     tally: &'a mut Tally,
     run: Run,
+    pods: Pods,
     pub answer: u32,
     pub tool: Tool,
 }
@@ -114,7 +118,7 @@ impl<'a> Player<'a> {
     pub fn set_up(both: &'a Both, tally: &'a mut Tally, setup: SetUp) -> Result<Player<'a>, Finding> {
         let run = Run { setup, inputs: Vec::new() };
         match both.setup(setup) {
-            Some((answer, tool)) => Ok(Player { both, tally, run, answer, tool }),
+            Some((answer, tool)) => Ok(Player { both, tally, run, pods: Pods::at_setup(), answer, tool }),
             None => Err(Finding::Run(run)),
         }
     }
@@ -134,6 +138,10 @@ impl<'a> Player<'a> {
     /// Compares an input and goes on to the state after it.
     pub fn give(&mut self, input: Input) -> Result<Outcome, Finding> {
         let o = self.look(&input)?;
+        if let Some(why) = self.pods.note(&input, &o) {
+            return Err(Finding::Document(self.with(&input), why));
+        }
+        self.tally.counted.note(&self.tool, &input, &o);
         self.tool = o.tool;
         self.run.inputs.push(input);
         Ok(o)

@@ -9,6 +9,7 @@ use independent::Carrier;
 
 use crate::laws::{shortened, unlawful};
 use crate::machine::{Both, Outcome, SetUp};
+use crate::pods::Pods;
 use crate::script::Run;
 
 /// After how many inputs of the run the programs differ, or are both against the documents:
@@ -17,9 +18,12 @@ pub fn differs_after(both: &Both, run: &Run) -> Option<usize> {
     let Some((_, mut tool)) = both.setup(run.setup) else {
         return Some(0);
     };
+    let mut pods = Pods::at_setup();
     for (k, input) in run.inputs.iter().enumerate() {
-        let lawful =
-            both.step(&tool, input).filter(|o| unlawful(&tool, input, o).is_none() && stays(both, &tool, o));
+        let lawful = both
+            .step(&tool, input)
+            .filter(|o| unlawful(&tool, input, o).is_none() && stays(both, &tool, o))
+            .filter(|o| pods.note(input, o).is_none());
         match lawful {
             Some(o) => tool = o.tool,
             None => return Some(k + 1),

@@ -13,6 +13,7 @@ use crate::parts::names::Texts;
 use crate::parts::replies::Replies;
 use crate::parts::waiting::Tables;
 use crate::play::Tally;
+use crate::pods::Counted;
 use crate::predict::Foretold;
 use crate::queue::Befallen;
 use crate::undo::Undone;
@@ -38,6 +39,8 @@ pub struct Table {
     pub totalled: [Totalled; 2],
     /// What befell the alarms, along the runs and from states.
     pub violated: [Violated; 2],
+    /// What befell the count of pods, along all runs.
+    pub counted: Counted,
     /// What was undone, along all runs and from states.
     pub undone: [Undone; 2],
     /// Inputs that were given by a function that isn't theirs.
@@ -91,7 +94,7 @@ impl Table {
         let [wafers_of_runs, _] = self.totalled;
         let [alarms_of_runs, alarms_of_states] = self.violated;
         let [undone_of_runs, undone_of_states] = self.undone;
-        let parts: [(&str, Vec<String>); 13] = [
+        let parts: [(&str, Vec<String>); 14] = [
             ("along the runs, row and answer", pairs),
             ("along the runs, by a queue", queues_of_runs.unmet()),
             ("from states, by a queue", queues_of_states.unmet()),
@@ -103,6 +106,7 @@ impl Table {
             ("among the messages", self.messages.unmet()),
             ("among the messages that are answered", self.replies.unmet()),
             ("among the logs", self.logs.unmet()),
+            ("often enough along the runs, of pods", self.counted.unmet()),
             ("often enough along the runs, row undone", undone_of_runs.unmet()),
             ("often enough from states, row undone", undone_of_states.unmet()),
         ];
@@ -137,6 +141,7 @@ impl Table {
         println!("of {all} things that wafers may be {runs} were met along the runs, {states} from random sound states");
         let ([runs, states], all) = (self.violated.map(|violated| violated.met()), VIOLATES.len());
         println!("of {all} things that may befall an alarm {runs} of {ALONG_RUNS} did along the runs, {states} from random sound states");
+        println!("{}", self.counted);
         let [[runs, not], [states, not_from_states]] = self.undone.map(|undone| undone.counts());
         println!("{runs} inputs were undone along the runs, {not} left something behind; {states} and {not_from_states} from random sound states");
         println!("an input gave {most} reports at most");
@@ -163,7 +168,7 @@ mod tests {
     #[test]
     fn what_is_not_met_is_told() {
         let lines = Table::default().unmet();
-        assert_eq!(lines.len(), 16, "{lines:?}");
+        assert_eq!(lines.len(), 17, "{lines:?}");
         assert!(lines[1].starts_with("NOT MET along the runs, by a queue: CancelCarrier of"), "{lines:?}");
         assert!(
             lines[3].starts_with("NOT MET along the runs, by a prediction: Tp at the setting"),
@@ -176,7 +181,12 @@ mod tests {
         );
         assert!(lines[7].ends_with("LoadDone that holds in MANUAL"), "{lines:?}");
         assert_eq!(lines[10], "NOT MET among the logs: agrees, disagrees, 27, 28, 29");
-        assert!(lines[11].contains("along the runs, row undone: 1 by 2 (0 times), 3 by 4"), "{lines:?}");
-        assert_eq!(lines[14], "NO SLOT MAP was OK at once along the runs, or none from states");
+        assert!(
+            lines[11].contains("along the runs, of pods: LoadDone by hand in MANUAL (0 times), "),
+            "{lines:?}"
+        );
+        assert!(lines[11].ends_with("a pod at a port (0 times), a pod in the buffer (0 times)"), "{lines:?}");
+        assert!(lines[12].contains("along the runs, row undone: 1 by 2 (0 times), 3 by 4"), "{lines:?}");
+        assert_eq!(lines[15], "NO SLOT MAP was OK at once along the runs, or none from states");
     }
 }

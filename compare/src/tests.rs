@@ -5,6 +5,7 @@ mod wrong_logs;
 mod wrong_maps;
 mod wrong_messages;
 mod wrong_names;
+mod wrong_pods;
 mod wrong_predict;
 mod wrong_queue;
 mod wrong_replies;
