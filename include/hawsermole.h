@@ -9,9 +9,10 @@
  * S3F18, the answer to the host, is written into room that you lend. hm_secs_step is the same without the reply.
  * The rules are document 01's, with document 02's requests P1, expected maps, P3, SECS-II from the host bridge,
  * P4, names padded with blanks, P5, a queue for CarrierOut, P7, prediction of ready to unload, P8, where the predicted
- * time comes from, P9, hands on an AUTO port, P2: hm_waiting, and P13, answers to the bridge. hm_judge, P14, judges a
- * log by document 01 without any request. What P10 says of hm_step: a booking, as HM_INPUT_BIND, that was accepted is
- * taken back by its cancel, as HM_INPUT_CANCEL_BIND, and every byte of the tool is as it was; the manual has the pairs.
+ * time comes from, P9, hands on an AUTO port, P2: hm_waiting, P11: hm_pods_here, and P13, answers to the bridge.
+ * hm_judge, P14, judges a log by document 01 without any request. What P10 says of hm_step: a booking, as HM_INPUT_BIND,
+ * that was accepted is taken back by its cancel, as HM_INPUT_CANCEL_BIND, and every byte of the tool is as it was; the
+ * manual has the pairs.
  * C99, C11 and C++17.
  * Link with libhawsermole.a; see examples/firmware.c and examples/host_bridge.c. hawsermole_words.h has words for the
  * numbers, and a carrier by its name; hawsermole_events.h SEMI E87's numbers of what a report tells.
@@ -569,6 +570,24 @@ static inline uint32_t hm_seconds(const hm_time *time)
         seconds = seconds << 8 | time->bytes[i - 1];
     }
     return seconds;
+}
+
+/*
+ * How many pods are here: those at ports, and the carriers in the buffer. A held pod isn't yet, one on its way out of
+ * the buffer still is. After every input of a run from hm_setup on it is what came in (LoadDone without those that were
+ * held, and Continue) less what went out (UnloadDone): docs/MANUAL.md, "Pods in, pods out". Any bytes may be asked.
+ */
+static inline uint32_t hm_pods_here(const hm_tool *tool)
+{
+    uint32_t here = 0, i;
+
+    for (i = 0; i < HM_PORTS; i++) {
+        here += tool->ports[i].pod != HM_NO_POD;
+    }
+    for (i = 0; i < HM_RECORDS; i++) {
+        here += tool->carriers[i].place == HM_PLACE_BUFFER;
+    }
+    return here;
 }
 
 /*

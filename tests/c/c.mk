@@ -5,9 +5,9 @@ CXXFLAGS_C = $(CFLAGS_C) -Wold-style-cast
 SANITIZE = -fsanitize=address,undefined -fno-sanitize-recover=all -fno-omit-frame-pointer
 SANITIZED = gcc -std=c99 $(CFLAGS_C) $(SANITIZE)
 
-SANITIZED_PROGRAMS = firmware host_bridge names secs reply waiting judge wafers hands undo callers
+SANITIZED_PROGRAMS = firmware host_bridge names secs reply waiting judge wafers hands undo pods callers
 C_PROGRAMS = header-c99 header-c11 header-c++17 words-c99 words-c11 words-c++17 events-c99 events-c11 events-c++17 \
-	twelve maps queue predict wafers hands undo names secs reply waiting judge firmware host_bridge callers stack
+	twelve maps queue predict wafers hands undo pods names secs reply waiting judge firmware host_bridge callers stack
 
 c: cross $(C_PROGRAMS:%=target/c/%)
 	CC="$(CC)" tests/c/archive.sh $(ARCHIVE)
@@ -26,6 +26,7 @@ c: cross $(C_PROGRAMS:%=target/c/%)
 	$(EMULATOR) target/c/wafers
 	$(EMULATOR) target/c/hands
 	$(EMULATOR) target/c/undo
+	$(EMULATOR) target/c/pods
 	$(EMULATOR) target/c/names
 	$(EMULATOR) target/c/secs
 	$(EMULATOR) target/c/reply
@@ -52,6 +53,7 @@ sanitize: $(SANITIZED_PROGRAMS:%=target/c/%-sanitized)
 	target/c/wafers-sanitized
 	target/c/hands-sanitized
 	target/c/undo-sanitized
+	target/c/pods-sanitized
 
 target/c/%-c99: tests/c/%.c $(C_FILES)
 	mkdir -p target/c
@@ -66,7 +68,7 @@ target/c/%-c++17: tests/c/%.c $(C_FILES)
 	$(CXX) -std=c++17 $(CXXFLAGS_C) -x c++ $< -x none $(ARCHIVE) -o $@
 
 target/c/twelve target/c/maps target/c/queue target/c/predict target/c/wafers target/c/hands target/c/undo \
-		target/c/names target/c/secs target/c/reply target/c/waiting target/c/judge target/c/callers \
+		target/c/pods target/c/names target/c/secs target/c/reply target/c/waiting target/c/judge target/c/callers \
 		target/c/stack: target/c/%: tests/c/%.c $(C_FILES)
 	mkdir -p target/c
 	$(CC) -std=c99 $(CFLAGS_C) $< $(ARCHIVE) -Wl,-z,now -o $@
@@ -82,6 +84,7 @@ target/c/firmware-sanitized target/c/host_bridge-sanitized: target/c/%-sanitized
 
 target/c/names-sanitized target/c/secs-sanitized target/c/reply-sanitized target/c/waiting-sanitized \
 		target/c/judge-sanitized target/c/wafers-sanitized target/c/hands-sanitized target/c/undo-sanitized \
-		target/c/callers-sanitized: target/c/%-sanitized: tests/c/%.c $(C_FILES) $(NATIVE)/libhawsermole.a
+		target/c/pods-sanitized target/c/callers-sanitized: target/c/%-sanitized: tests/c/%.c $(C_FILES) \
+		$(NATIVE)/libhawsermole.a
 	mkdir -p target/c
 	$(SANITIZED) $< $(NATIVE)/libhawsermole.a -o $@

@@ -288,7 +288,9 @@ static void predictions(void)
     CHECK(hm_setup(&tool, 1, 0, 60, HM_SECONDS_GREATEST) == HM_ACCEPTED && hm_seconds(&tool.clock) == 0);
     CHECK(hm_seconds(&tool.setting) == 60 && hm_seconds(&tool.timeout) == 86400);
     ACCEPTED(HM_INPUT_LOAD_START, 1, 0, "");
+    CHECK(hm_pods_here(&tool) == 0);
     ACCEPTED(HM_INPUT_LOAD_DONE, 1, 0, "");
+    CHECK(hm_pods_here(&tool) == 1);
     ACCEPTED(HM_INPUT_ID_READ, 1, 0, "A");
     CHECK(own->state == HM_PREDICTION_WAITING_FOR_CARRIER && own->has_predicted == 0 && own->has_estimate == 0);
     CHECK(reports.count == 5 && reports.items[4].model == HM_MODEL_PREDICTION && is_name(reports.items[4].name, "A"));
