@@ -291,6 +291,7 @@ mod tests {
         assert!(ROWS.iter().all(|row| help.contains(&format!("  {} ", row.name))));
         assert!(help.contains("\n   8  the buffer place is taken, or the opener is in use\n"));
         assert!(help.contains("\n  11  the clock is earlier than the last accepted\n"));
+        assert!(help.contains("\n  pods  ") && help.contains("\npods prints    pods IN OUT PORTS BUFFER "));
         assert!(help.contains("\n  PredictedTime CLOCK NAME TP "));
         assert!(help.contains("\n  Wafers CLOCK NAME [WAFER..] "));
         assert!(help.contains("\n  12  a wafer's time or the predicted time is out of range\n"));
