@@ -58,8 +58,8 @@
 extern "C" {
 #endif
 
-/* The version of this header, 0x00MMmmpp: 0.13.0. hm_version is the archive's; compare the two once at start. */
-#define HM_VERSION 0x000D00
+/* The version of this header, 0x00MMmmpp: 0.14.0. hm_version is the archive's; compare the two once at start. */
+#define HM_VERSION 0x000E00
 
 /* Limits. */
 #define HM_PORTS 4                 /* a tool has 1 to 4 ports */

@@ -2,7 +2,7 @@
 //! load ports, pods and the buffer, one input at a time, no heap.
 //!
 //! The machine itself is an archive, `libhawsermole.a`, proved to give exactly the answer, the state and the
-//! reports that document 01 lays down, with document 02's requests P1, P3 to P9 and P13. This crate wraps it: an
+//! reports that document 01 lays down, with document 02's requests P1, P3 to P11 and P13. This crate wraps it: an
 //! [`Input`] has the documents' name and arguments, a [`Refusal`] is one of their reasons, [`Reports`] gives what
 //! changed and [`Event`] which transitions of E87 that is, an [`ExpectedMap`] lets the tool judge a slot map that the
 //! host knows beforehand, [`Name::in_text`] tells which name a tag reader's text has without the blanks at its end,

@@ -15,7 +15,7 @@
 //! ```
 
 /// The version of this crate as a number, 0x00MMmmpp; `HM_VERSION` of the header.
-pub const VERSION: u32 = 0x000D00;
+pub const VERSION: u32 = 0x000E00;
 /// How many bytes a tool has.
 pub const TOOL_BYTES: usize = 3782;
 /// How many bytes document 01's tool has, with which a tool begins.

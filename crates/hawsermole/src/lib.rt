@@ -32,12 +32,12 @@ use waiting::found::before_end;
 use waiting::found::stopped_at;
 use waiting::found::waits_for_host;
 
-// 0x00MMmmpp: 0.13.0, HM_VERSION of the header that belongs to it.
+// 0x00MMmmpp: 0.14.0, HM_VERSION of the header that belongs to it.
 #[no_mangle]
 pub extern "C" fn hm_version() -> u32
-    ensures { λ r. ⌜ r ≡ 3328 ⌝ }
+    ensures { λ r. ⌜ r ≡ 3584 ⌝ }
 {
-    0x000D00
+    0x000E00
 }
 
 #[no_mangle]
