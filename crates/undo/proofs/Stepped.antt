@@ -70,10 +70,6 @@ module _ (s : Handled) (i : Brought) (t : Passes s i) where
     unfolding answerIn answerBelow
     below-yes = subst (λ l. answerBelow p l ≡ 0) (t .stands) (lower-zero (lowest (rowIn s i .grounds)) _ yes .1)
 
-    pub own-yes : lowest (rowIn s i .grounds) ≡ 0
-    unfolding answerIn
-    own-yes = lower-zero (lowest (rowIn s i .grounds)) _ yes .0
-
     timed-yes : prediction.answerIn p (i .timed) ≡ 0
     unfolding wafers.answerIn
     timed-yes = rw (t .noWafers) at below-yes
