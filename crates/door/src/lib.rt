@@ -1,2 +1,3 @@
 // The door of the whole tool: names are shortened once, before every row.
+#![tactic(auto)]
 pub mod door;

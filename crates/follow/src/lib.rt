@@ -1,3 +1,4 @@
 // Tables beside the records, which follow them.
+#![tactic(auto)]
 pub mod blocks;
 pub mod table;

@@ -1,1 +1,2 @@
 // Lists and tests on them: definitions in specs/, laws in proofs/. There is no code here.
+#![tactic(auto)]

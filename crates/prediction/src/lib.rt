@@ -1,2 +1,3 @@
 // Request P7: prediction of ready to unload.
+#![tactic(auto)]
 pub mod prediction;

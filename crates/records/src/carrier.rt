@@ -11,7 +11,7 @@ use crate::words::*;
 
 // spot: the buffer place; port: the tie; the states are in `words`.
 #[repr(C)]
-#[derive(Drop)]
+#[derive(Clone, Copy)]
 pub struct Carrier {
     pub name: Name,
     pub place: u8,

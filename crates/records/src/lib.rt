@@ -1,4 +1,5 @@
 // What a port and a carrier are, and the record that follows.
+#![tactic(auto)]
 pub mod carrier;
 pub mod choose;
 pub mod fill;

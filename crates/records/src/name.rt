@@ -6,7 +6,7 @@ use crate::fill::fill;
 use crate::sizes::*;
 
 #[repr(C)]
-#[derive(Drop)]
+#[derive(Clone, Copy)]
 pub struct Name {
     pub bytes: [u8; NAME_BYTES],
 }

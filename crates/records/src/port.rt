@@ -11,7 +11,7 @@ use crate::words::*;
 
 // tie: a carrier's name, or all zeros; the states are in `words`.
 #[repr(C)]
-#[derive(Drop)]
+#[derive(Clone, Copy)]
 pub struct Port {
     pub transfer: u8,
     pub access: u8,

@@ -1,2 +1,3 @@
 // What a row sees, from the bytes.
+#![tactic(auto)]
 pub mod look;

@@ -1,3 +1,4 @@
 // Whether the bytes that a caller lends hold a sound tool.
+#![tactic(auto)]
 pub mod seats;
 pub mod whole;

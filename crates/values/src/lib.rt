@@ -1,2 +1,3 @@
 // Request P3: attribute values, held as what they were sent as.
+#![tactic(auto)]
 pub mod value;
