@@ -1,5 +1,6 @@
 // What a port and a carrier are, and the record that follows.
 #![tactic(auto)]
+
 pub mod carrier;
 pub mod choose;
 pub mod fill;
