@@ -57,7 +57,7 @@ module _ (s₀ : State) (none : s₀.carriers ≡ []) (sound_reached : (run : Li
     longer : (m n : Name) → m ≡ n → is_live s n ≡ true
         → history m (events s₀ (i ∷ earlier)) ≡ event ∷ history n (events s₀ earlier)
     unfolding events history
-    longer m n q l = rw (q, l)
+    longer m n q l = subst (λ (x : Name). history x (events s₀ (i ∷ earlier)) ≡ event ∷ history n (events s₀ earlier)) (sym q) (rw l)
 
     told_old : (c after : Carrier) → is_live s c.name ≡ true → after.name ≡ c.name → Told earlier c → Traces s i i.number c after
         → Told (i ∷ earlier) after

@@ -1,5 +1,6 @@
 // What the rules of document 01 speak of: a tool, what a row sees of it, what a row does, what is reported.
 #![tactic(auto)]
+
 pub mod report;
 pub mod row;
 pub mod tool;
