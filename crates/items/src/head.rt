@@ -6,14 +6,14 @@ use crate::formats::*;
 use records::choose::*;
 
 // Where data stands in a message.
-#[derive(Drop)]
+#[derive(Clone, Copy)]
 pub struct Span {
     pub at: usize,
     pub many: usize,
 }
 
 // The format code, how many length bytes there are, where the data starts, and the length.
-#[derive(Drop)]
+#[derive(Clone, Copy)]
 pub struct Head {
     pub code: usize,
     pub lengths: usize,

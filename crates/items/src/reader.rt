@@ -5,7 +5,7 @@ ghost use Rattle.items.specs.Reading.{read_item, read_message, walked};
 
 use crate::walk::*;
 
-#[derive(Drop)]
+#[derive(Clone, Copy)]
 pub struct Reader<'a> {
     pub msg: &'a [u8],
     pub at: usize,

@@ -7,7 +7,7 @@ use crate::formats::*;
 use crate::head::*;
 
 // A refusal, or 0; where the reading ended; how many items have begun; every number and boolean item holds one value.
-#[derive(Drop)]
+#[derive(Clone, Copy)]
 pub struct Walk {
     pub refusal: u8,
     pub at: usize,

@@ -14,7 +14,7 @@ use logs::sizes::*;
 use machine::step::step_sound;
 
 // Whether an entry shows what document 01 gives, and the answer that it gives.
-#[derive(Drop)]
+#[derive(Clone, Copy)]
 pub struct Given {
     pub same: bool,
     pub answer: u8,

@@ -9,7 +9,7 @@ use records::choose::either;
 use records::name::Name;
 
 // Where the request of a name stands, the same if it waits and if it is started, and the one that is started to a port.
-#[derive(Drop)]
+#[derive(Clone, Copy)]
 pub struct Found {
     pub of: usize,
     pub waits: usize,

@@ -6,7 +6,7 @@ ghost use Rattle.logs.specs.InPlace.{read_part};
 use crate::bytes::*;
 
 // What is refused, or 0, and where.
-#[derive(Drop)]
+#[derive(Clone, Copy)]
 pub struct Stop {
     pub refusal: u8,
     pub at: usize,

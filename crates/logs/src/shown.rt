@@ -13,7 +13,7 @@ use records::choose::*;
 use records::sizes::*;
 
 // Whether a report stands at a position, and where it ends.
-#[derive(Drop)]
+#[derive(Clone, Copy)]
 pub struct Told {
     pub same: bool,
     pub at: usize,

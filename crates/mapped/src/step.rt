@@ -28,7 +28,7 @@ use sight::look::look;
 
 // The answer; for a layer around this one, the position of the record that went (the number of records: none), whether one
 // was made, and the name of the one that went (no name: none), which can't be read off the bytes any more.
-#[derive(Drop)]
+#[derive(Clone, Copy)]
 pub struct Moved {
     pub answer: u8,
     pub goes: usize,

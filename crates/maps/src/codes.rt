@@ -1,7 +1,7 @@
 // What a row sees of expected maps.
 
 // Whether the input's codes are an expected map or none, and whether they equal the map that the name's record keeps.
-#[derive(Drop)]
+#[derive(Clone, Copy)]
 pub struct Codes {
     pub fine: bool,
     pub equal: bool,

@@ -5,7 +5,7 @@ use records::name::Name;
 pub const QUEUE: usize = 16;
 
 // The carrier's name, the port that it goes to, and whether it is started: 0, 1.
-#[derive(Drop)]
+#[derive(Clone, Copy)]
 pub struct Request {
     pub name: Name,
     pub port: u8,

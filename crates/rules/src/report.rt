@@ -5,7 +5,7 @@ use records::sizes::REPORTS;
 
 // The subject is a port in models 1 to 4 and a name in models 5 to 7; the other is zero.
 #[repr(C)]
-#[derive(Drop)]
+#[derive(Clone, Copy)]
 pub struct Report {
     pub model: u8,
     pub port: u8,
@@ -15,14 +15,14 @@ pub struct Report {
 }
 
 #[repr(C)]
-#[derive(Drop)]
+#[derive(Clone, Copy)]
 pub struct Reports {
     pub count: u8,
     pub items: [Report; REPORTS],
 }
 
 #[repr(C)]
-#[derive(Drop)]
+#[derive(Clone, Copy)]
 pub struct Outcome {
     pub tool: Tool,
     pub answer: u8,

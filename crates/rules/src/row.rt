@@ -4,7 +4,7 @@ use records::name::Name;
 use records::port::Port;
 use records::sizes::SLOTS;
 
-#[derive(Drop)]
+#[derive(Clone, Copy)]
 pub struct Seen {
     // how many buffer places and records the tool has
     pub places: u8,
@@ -39,7 +39,7 @@ pub struct Seen {
 
 // The port that changes (0: none) and what it becomes; the position of the record that goes, that of the record that
 // changes, the record that follows it, and whether that one is new. The number of records stands for no position.
-#[derive(Drop)]
+#[derive(Clone, Copy)]
 pub struct Effect {
     pub port: u8,
     pub becomes: Port,

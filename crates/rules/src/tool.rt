@@ -5,7 +5,7 @@ use records::sizes::{PORTS, RECORDS};
 
 // used: how many ports; places: how many buffer places; count: how many records. Past these all is zero.
 #[repr(C)]
-#[derive(Drop)]
+#[derive(Clone, Copy)]
 pub struct Tool {
     pub used: u8,
     pub places: u8,
@@ -16,7 +16,7 @@ pub struct Tool {
 
 // What set-up gives.
 #[repr(C)]
-#[derive(Drop)]
+#[derive(Clone, Copy)]
 pub struct Setup {
     pub tool: Tool,
     pub answer: u8,

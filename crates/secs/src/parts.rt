@@ -9,7 +9,7 @@ use items::walk::*;
 use records::sizes::*;
 
 // Whether there are five; where each begins; how many items have begun before the last, the list of attributes.
-#[derive(Drop)]
+#[derive(Clone, Copy)]
 pub struct Parts {
     pub five: bool,
     pub id: usize,

@@ -12,7 +12,7 @@ use records::choose::*;
 use records::sizes::*;
 
 // A refusal, or 0; how many items have begun; the row, the port, where the name stands, and how many codes there are.
-#[derive(Drop)]
+#[derive(Clone, Copy)]
 pub struct Request {
     pub refusal: u8,
     pub count: usize,

@@ -18,7 +18,7 @@ use rules::row::Seen;
 
 // What the records passed so far show: where the name's record stands and that of the carrier tied to the port, how many
 // are expected, whether the buffer place is taken, whether some carrier is open.
-#[derive(Drop)]
+#[derive(Clone, Copy)]
 pub struct Passed {
     pub stands: usize,
     pub holds: usize,
@@ -28,7 +28,7 @@ pub struct Passed {
 }
 
 // The records found at the end of the pass: the name's, and the one tied to the port.
-#[derive(Drop)]
+#[derive(Clone, Copy)]
 pub struct Found {
     pub passed: Passed,
     pub found: Carrier,

@@ -7,7 +7,7 @@ use crate::sizes::*;
 use crate::wafers::*;
 
 // fits: whole wafers, and at most 25; timely: and each time is a whole multiple in range. Where either fails, no seconds.
-#[derive(Drop)]
+#[derive(Clone, Copy)]
 pub struct Sent {
     pub fits: bool,
     pub timely: bool,

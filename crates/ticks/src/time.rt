@@ -5,7 +5,7 @@ ghost use Rattle.ticks.specs.Times.{time_of, timely};
 use crate::sizes::*;
 
 // Whole 1/1024ths, or any other float.
-#[derive(Drop)]
+#[derive(Clone, Copy)]
 pub enum Time {
     Ticks(u64),
     Other,

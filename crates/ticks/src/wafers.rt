@@ -6,7 +6,7 @@ ghost use Rattle.ticks.specs.Wafers.{wafers_in, all_timely, total_of, f64_total}
 use crate::sizes::*;
 use crate::time::is_timely;
 
-#[derive(Drop)]
+#[derive(Clone, Copy)]
 pub struct Wafer {
     pub process: f64,
     pub handling: f64,

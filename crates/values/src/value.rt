@@ -7,7 +7,7 @@ ghost use Rattle.values.specs.Values.{f4_of, f8_of, signed_of, half_of, is_signe
 use items::formats::*;
 use items::head::*;
 
-#[derive(Drop)]
+#[derive(Clone, Copy)]
 pub enum Value {
     // the format's code, and the number
     Unsigned(usize, u64),

@@ -7,7 +7,7 @@ use records::words::*;
 
 // position: from 0, and the table's length where none waits; read: how many records were read to know.
 #[repr(C)]
-#[derive(Drop)]
+#[derive(Clone, Copy)]
 pub struct Found {
     pub position: u64,
     pub read: u64,
