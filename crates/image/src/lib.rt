@@ -1,5 +1,6 @@
 // A tool as the bytes that its caller lends.
 #![tactic(auto)]
+
 pub mod layout;
 pub mod read;
 pub mod report;

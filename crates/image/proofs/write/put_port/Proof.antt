@@ -1,9 +1,0 @@
-use borrow.Author.Rules.{rules}
-use Rattle.image.proofs.write.put_port.Statement.{statement}
-use Rattle.image.proofs.write.put_port.Tie as tie
-
-pub put_port_spec : {M : Type 1} → statement M
-put_port_spec =
-    tie.close
-    (tie.spec (λ c κs. search rules) (λ c. search rules) (λ c κs. search rules)
-    (λ c. (rw (c.put.ensures, c.before.before.before.port-bytes.ensures), search rules)))
