@@ -1,3 +1,4 @@
 // What a row sees, from the bytes.
 #![tactic(auto)]
+
 pub mod look;

@@ -1,0 +1,4 @@
+use Rattle.sight.proofs.look.gather.Goals as goal
+
+pub returns : goal.returns
+returns c = cc
