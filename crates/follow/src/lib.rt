@@ -1,4 +1,5 @@
 // Tables beside the records, which follow them.
 #![tactic(auto)]
+
 pub mod blocks;
 pub mod table;
