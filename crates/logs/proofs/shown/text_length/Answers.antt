@@ -11,14 +11,7 @@ use Rattle.lists.specs.Lists.{where_is}
 use Rattle.lists.proofs.Loops.{back, ended}
 use Rattle.image.specs.Image.{byte_at, name_from}
 use Rattle.image.proofs.Table.{length_table, getD_table}
-use Rattle.logs.proofs.shown.text_length.Statement.{statement}
-use Rattle.logs.proofs.shown.text_length.Tie as tie
-
-abbrev invariant_loop : tie.invariant_loop
-invariant_loop o from n₀ i₀ n i = (i ≤ 16) × (n + i ≤ 16) × (n ≡ where_is (λ b. eqb b 0) (drop i (name_from o from).bytes))
-
-abbrev decreases_loop : tie.decreases_loop
-decreases_loop o from n₀ i₀ n i = i
+use Rattle.logs.proofs.shown.text_length.Goals as goal
 
 nearer : (b : Bool) (r n i : ℕ) → r ≡ cond b 0 (n + 1) → 1 ≤ i → n + i ≤ 16 → r + (i - 1) ≤ 16
 nearer true r n i e l h = omega arith
@@ -40,23 +33,20 @@ module _ (o : List ℕ) (from : ℕ) where
       let z = length_table 16 f in
       rw (back name i 0 (omega arith) (omega arith), getD_table 16 f (i - 1) 0 (omega arith), sym w, e, add-one n)
 
-loop_again : tie.Need-loop-preserved invariant_loop decreases_loop
-loop_again c =
-    let l = c.before.before.before.loop in
-    let a = c.before.before.before.before.args in (
+pub loop-i-init : goal.loop-i-init
+loop-i-init c = (omega arith, omega arith, none_yet c.args.o.now c.args.from)
+
+pub loop-i-preserved : goal.loop-i-preserved
+loop-i-preserved c =
+    let l = c.loop-i in
+    let a = c.args in (
       omega arith,
-      nearer (eqb (byte_at a.o.now (a.from + (l.i - 1))) 0) _ l.n l.i c.either.ensures (omega arith) l.invariant.1,
-      one_more a.o.now a.from _ l.n l.i c.either.ensures (omega arith) l.invariant.0 l.invariant.2,
+      nearer (eqb (byte_at a.o.now (a.from + (l.i - 1))) 0) _ l.n l.i c.either-n.ensures (omega arith) l.invariant.1,
+      one_more a.o.now a.from _ l.n l.i c.either-n.ensures (omega arith) l.invariant.0 l.invariant.2,
     )
 
-returns : tie.Need-returns invariant_loop decreases_loop
+pub returns : goal.returns
 returns c =
-    let l = c.before.loop in
+    let l = c.loop-i in
     let z : l.i ≡ 0 = omega arith in
-    (rw z at l.invariant.2, omega arith)
-
-pub text_length_spec : {M : Type 1} → statement M
-text_length_spec =
-    tie.close
-    (tie.spec invariant_loop decreases_loop (λ c. (omega arith, omega arith, none_yet c.args.o.now c.args.from)) (λ c. omega arith)
-    (λ c. omega arith) (λ c. omega arith) (λ c. omega arith) (λ c κs. tt) (λ c. omega arith) loop_again returns)
+    record { value = rw z at l.invariant.2; upper_bound = omega arith }
