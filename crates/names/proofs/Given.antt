@@ -1,6 +1,6 @@
 -- What the check gives for every text: it passes exactly the texts that are a name of document 01 and then blanks, 32 bytes at most, and
 -- gives that name.
-use Prim.Native.Nat.{ℕ, zero, suc, ◌+◌, ◌-◌, ◌≤◌}
+use Prim.Native.Nat.{ℕ, zero, suc, ◌+◌, ◌≤◌}
 use native.Mathlib.Omega.{arith}
 use mathlib.Core.Path.{◌≡◌, refl, ap, sym, ◌∙◌}
 use mathlib.Core.Bool.{Bool, true, false, not, cond, ◌&&◌, ◌||◌}
@@ -13,7 +13,7 @@ use Rattle.lists.specs.Lists.{every, any, between}
 use Rattle.lists.proofs.Bools.{clash, and_l, and_r, not_false}
 use Rattle.records.specs.Names.{graphic, is_name}
 use Rattle.names.specs.Check.{is_blank, remains, refused, shortened}
-use Rattle.names.proofs.Remains.{remains_front, text_is, remains_padded, no_blank_remains}
+use Rattle.names.proofs.Remains.{remains_front, remains_padded, no_blank_remains}
 
 -- ── A text passes where a name of document 01 remains of at most 32 bytes ──
 pub graphic_not_blank : (b : ℕ) → graphic b ≡ true → is_blank b ≡ false

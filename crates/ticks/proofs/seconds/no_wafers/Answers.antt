@@ -2,12 +2,8 @@
 use Rattle.std.proofs.Common.{refl}
 use Rattle.lists.specs.Lists.{every}
 use Rattle.ticks.specs.Wafers.{wafers_in, total_of, rounded_up, fits, good, wafers_from}
-use Rattle.ticks.proofs.seconds.no_wafers.Statement.{statement}
-use Rattle.ticks.proofs.seconds.no_wafers.Tie as tie
+use Rattle.ticks.proofs.seconds.no_wafers.Goals as goal
 
-returns : tie.Need-returns
+pub returns : goal.returns
 unfolding wafers_from fits good wafers_in every rounded_up total_of
 returns c = refl
-
-pub no_wafers_spec : {M : Type 1} → statement M
-no_wafers_spec = tie.close (tie.spec returns)
