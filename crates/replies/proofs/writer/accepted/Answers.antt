@@ -1,0 +1,7 @@
+use Rattle.replies.proofs.Spelt.{accepted_text}
+use Rattle.replies.proofs.Lent.{too_small_fact, one_part}
+use Rattle.replies.proofs.writer.accepted.Goals as goal
+
+pub returns : goal.returns
+returns c =
+    rw (accepted_text, c.put.ensures) (one_part c.args.room.now _ c.if-room-lt-ACCEPTED_BYTES.false)
