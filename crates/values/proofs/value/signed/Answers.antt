@@ -1,5 +1,4 @@
 -- Below half the number itself, from half on it less twice half: -1 less what is missing to the top.
-use borrow.Author.Rules.{rules}
 use borrow.Author.Tests.{lt-ltb, le-ltb}
 use native.Mathlib.Omega.{arith}
 use native.Mathlib.Nat.{zero-add}
@@ -10,8 +9,7 @@ use mir.Syntax.{w64}
 use mir.Val.{SFits, to_z, of_z}
 use mir.ValLaws.{to_z_pos, to_z-of_z}
 use Rattle.values.specs.Values.{signed_of}
-use Rattle.values.proofs.value.signed.Statement.{statement}
-use Rattle.values.proofs.value.signed.Tie as tie
+use Rattle.values.proofs.value.signed.Goals as goal
 
 down : (k : ℕ) → negsuc 0 -ℤ pos k ≡ negsuc k
 down zero = refl
@@ -23,24 +21,20 @@ below k h = ap (λ (z : ℤ). negsuc 0 -ℤ z) (to_z_pos w64 k h) ∙ down k
 fits : (k : ℕ) → k < 2 ^ 63 → SFits w64 (negsuc k)
 fits k h = record { sfits = h }
 
-sub_result_3 : tie.Need-overflow-sub-result-3
-sub_result_3 c =
-    let k = c.before.args.half - 1 - (c.before.args.bits - c.before.args.half) in
+pub overflow_sub-result-else-bits-half-3 : goal.overflow_sub-result-else-bits-half-3
+overflow_sub-result-else-bits-half-3 c =
+    let k = c.args.half - 1 - (c.args.bits - c.args.half) in
     let l : k < 2 ^ 63 = omega arith in
     subst (SFits w64) (sym (below k l)) (fits k l)
 
-returns : tie.Need-returns
+pub returns-then-bits-half : goal.returns-then-bits-half
 unfolding signed_of
-returns c = to_z_pos w64 c.before.args.bits (omega arith) ∙ rw (lt-ltb c.before.args.bits c.before.args.half c.if1.true)
+returns-then-bits-half c = to_z_pos w64 c.args.bits (omega arith) ∙ rw (lt-ltb c.args.bits c.args.half c.if-bits-half.true)
 
-returns_2 : tie.Need-returns-2
+pub returns-else-bits-half : goal.returns-else-bits-half
 unfolding signed_of
-returns_2 c =
-    let k = c.before.args.half - 1 - (c.before.args.bits - c.before.args.half) in
+returns-else-bits-half c =
+    let k = c.args.half - 1 - (c.args.bits - c.args.half) in
     let l : k < 2 ^ 63 = omega arith in
-    ap (λ (z : ℤ). to_z w64 (of_z w64 z)) (below k l) ∙ to_z-of_z w64 (negsuc k) (fits k l) ∙ rw (le-ltb c.before.args.bits
-    c.before.args.half c.if1.false)
-
-pub signed_spec : {M : Type 1} → statement M
-signed_spec = tie.close (tie.spec (λ c. search rules) (λ c. search rules) (λ c. search rules)
-    (λ c. search rules) sub_result_3 returns returns_2)
+    ap (λ (z : ℤ). to_z w64 (of_z w64 z)) (below k l) ∙ to_z-of_z w64 (negsuc k) (fits k l) ∙ rw (le-ltb c.args.bits
+    c.args.half c.if-bits-half.false)
