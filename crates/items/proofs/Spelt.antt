@@ -3,7 +3,7 @@ use Prim.Native.Nat.{ℕ, zero, suc, ◌+◌, ◌*◌, ◌/◌, ◌%◌, ◌^◌
 use native.Mathlib.Omega.{arith}
 use native.Mathlib.Nat.{pow-suc, zero-add, add-zero}
 use mathlib.Core.Path.{◌≡◌, refl, sym, ap, ap₂, ◌∙◌}
-use mathlib.Core.List.{List, ◌∷◌, ◌++◌, append_assoc}
+use mathlib.Core.List.{List, [], ◌∷◌, ◌++◌, append_assoc}
 use lib.ListN.{length, get_or, drop, length-append, length-drop}
 use lib.Seq.{get_or-drop, get_or_at, drop-drop, drop_at}
 use borrow.Author.Tests.{lt-leb}
@@ -28,14 +28,11 @@ number_back zero n rest h = omega arith
 number_back (suc k) n rest h =
     let q : n < 256 ^ k * 256 = rw (pow-suc 256 k) at h in
     let l : n / 256 < 256 ^ k = omega arith in
-    rw (
-      append_assoc,
-      zero-add k,
-      number_back k (n / 256) (n % 256 ∷ rest) l,
-      get_or_at (in_bytes k (n / 256)) (n % 256) rest 0 k
-          (length_in_bytes k (n / 256)),
-    )
-    (omega arith)
+    let a : in_bytes (suc k) n ++ rest ≡ in_bytes k (n / 256) ++ (n % 256 ∷ rest) = append_assoc (in_bytes k (n / 256)) (n % 256 ∷ []) rest in
+    let b : number_at (in_bytes (suc k) n ++ rest) 0 k ≡ n / 256 = ap (λ m. number_at m 0 k) a ∙ number_back k (n / 256) (n % 256 ∷ rest) l in
+    let c : get_or (in_bytes (suc k) n ++ rest) (0 + k) 0 ≡ n % 256 =
+    rw (zero-add k) (ap (λ m. get_or m k 0) a ∙ get_or_at (in_bytes k (n / 256)) (n % 256) rest 0 k (length_in_bytes k (n / 256))) in
+    ap₂ (λ (x y : ℕ). x * 256 + y) b c ∙ omega arith
 
 -- ── The head that is written at a position ──
 module _ (m : List ℕ) (at code k n : ℕ) (rest : List ℕ) (e : drop at m ≡ heading code k n ++ rest) (l : k ≤ 3) (f : n < 256 ^ k) where

@@ -8,7 +8,6 @@ use Rattle.lists.proofs.Bools.{or_r, cond_ind}
 use Rattle.records.specs.Names.{is_name}
 use Rattle.rules.specs.Seen.{Input, see}
 use Rattle.rules.specs.Row.{unless}
-use Rattle.rules.specs.Rows as base
 use Rattle.rules.specs.Named.{takes_name, name_missing, called}
 use Rattle.rules.proofs.Named.{other_number, name_ignored, gives_one, one_is_lowest, no_name_refused}
 use Rattle.maps.specs.Expected.{carries}

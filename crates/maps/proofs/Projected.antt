@@ -22,7 +22,6 @@ use Rattle.rules.specs.Promise.{Live}
 use Rattle.rules.proofs.Accepts.{clear}
 use Rattle.maps.specs.Expected.{new_map}
 use Rattle.maps.specs.State.{Mapped, start}
-use Rattle.maps.specs.Sound.{sound}
 use Rattle.maps.specs.Rows.{codes_in}
 use Rattle.maps.specs.Outcome.{row_in, answer_in, enact, state_after}
 use Rattle.maps.specs.Projection.{reached, equal_map, proceed, stands_for, cut_down}

@@ -18,7 +18,7 @@ use Rattle.rules.specs.History as base-history
 use Rattle.rules.specs.History.{Event, is_live, history, done, verified, was_cancelled}
 use Rattle.rules.specs.Promise.{Live}
 use Rattle.rules.proofs.Backed.{Backed}
-use Rattle.rules.proofs.Earned.{each_told, earned}
+use Rattle.rules.proofs.Earned.{each_told}
 use Rattle.rules.proofs.SoundRuns.{sound_run, few_run}
 use Rattle.rules.proofs.Orderly.{orderly}
 use Rattle.maps.specs.Expected.{no_map, equals}

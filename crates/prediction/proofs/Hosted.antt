@@ -13,7 +13,6 @@ use Rattle.records.specs.declared.name.Name.{Name}
 use Rattle.records.specs.declared.carrier.Carrier.{Carrier}
 use Rattle.rules.specs.declared.report.Report.{Report}
 use Rattle.rules.specs.State.{State, record_of}
-use Rattle.rules.specs.Seen.{see}
 use Rattle.prediction.specs.declared.prediction.Prediction.{Prediction}
 use Rattle.prediction.specs.declared.prediction.Facts.{Facts}
 use Rattle.prediction.specs.Model.{Transition, transitions, course, waiting_for_carrier}

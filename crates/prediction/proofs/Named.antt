@@ -10,17 +10,16 @@ use Rattle.lists.specs.Lists.{any, between}
 use Rattle.lists.proofs.Bools.{clash, and_l, and_r, and_i, or_r, or_false_l, or_false_r}
 use Rattle.records.specs.Names.{is_name}
 use Rattle.rules.specs.declared.row.Seen.{Seen}
-use Rattle.rules.specs.Seen.{Input, see}
+use Rattle.rules.specs.Seen.{see}
 use Rattle.rules.specs.Row.{unless, lowest}
 use Rattle.rules.specs.Named as base
 use Rattle.rules.specs.Named.{name_missing}
 use Rattle.rules.proofs.Named.{gives_one, one_is_lowest}
-use Rattle.queue.specs.State.{Queued}
 use Rattle.queue.specs.Outcome as queue
 use Rattle.queue.specs.Named as queue-named
 use Rattle.queue.proofs.Named as queue-names
 use Rattle.prediction.specs.State.{Predicted, base_of, PredictedTool, state_of, Timed}
-use Rattle.prediction.specs.Outcome.{is_timed, says_of, tp_grounds, te_grounds, none_grounds, grounds_of, answer_in, Below, below_in, state_after, reports_in, refused, given_in}
+use Rattle.prediction.specs.Outcome.{is_timed, says_of, tp_grounds, te_grounds, none_grounds, grounds_of, answer_in, below_in, state_after, reports_in, refused, given_in}
 use Rattle.prediction.specs.Sound.{is_time}
 use Rattle.prediction.specs.Named.{takes_name, called}
 

@@ -32,7 +32,6 @@ use Rattle.queue.specs.Outcome as queue
 use Rattle.queue.proofs.Below.{base_facts}
 use Rattle.queue.proofs.SoundRuns as queue-runs
 use Rattle.prediction.specs.declared.prediction.Prediction.{Prediction}
-use Rattle.prediction.specs.declared.prediction.Facts.{Facts}
 use Rattle.prediction.specs.Predictions.{no_prediction}
 use Rattle.prediction.specs.State.{Predicted, base_of, Timed, is_fixed, first_prediction}
 use Rattle.prediction.specs.Sound.{is_time, is_span, times_in_range, is_ready, sound}

@@ -1,5 +1,5 @@
 -- Soundness: P5's, and the predictions', in the request's order.
-use Rattle.std.specs.Prelude.{ℕ, zero, Bool, true, false, not, cond, ◌&&◌, ◌||◌, List, [], ◌∷◌, drop, eqb, leb, ltb}
+use Rattle.std.specs.Prelude.{ℕ, Bool, true, false, not, cond, ◌&&◌, ◌||◌, List, [], ◌∷◌, drop, eqb, leb, ltb}
 use Rattle.lists.specs.Lists.{between, every}
 use Rattle.records.specs.declared.carrier.Carrier.{Carrier}
 use Rattle.records.specs.Ports.{ready_to_unload}

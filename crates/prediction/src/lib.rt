@@ -1,3 +1,4 @@
 // Request P7: prediction of ready to unload.
 #![tactic(auto)]
+
 pub mod prediction;

@@ -21,7 +21,7 @@ use Rattle.rules.specs.Seen.{Input, see}
 use Rattle.rules.specs.Row.{judge, reserved_or_tied, placed}
 use Rattle.rules.specs.Booking.{meant, cancel_bind}
 use Rattle.rules.specs.Verdict.{cancel_at, proceed_with_carrier, cancel_carrier}
-use Rattle.rules.specs.Service.{goes_out, comes_in, change_access, change_service_status}
+use Rattle.rules.specs.Service.{goes_out, comes_in, change_service_status}
 use Rattle.rules.specs.Opening.{leaves_port, close_row}
 use Rattle.rules.specs.Rows.{row_of}
 use Rattle.rules.proofs.Names.{name_is}

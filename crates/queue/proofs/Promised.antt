@@ -21,7 +21,6 @@ use Rattle.rules.specs.Inputs.{ReserveAtPort, CancelReservationAtPort, CarrierOu
 use Rattle.rules.specs.History.{Event, is_live, history}
 use Rattle.rules.specs.Promise.{Live, Orderly}
 use Rattle.rules.proofs.Apt.{Apt}
-use Rattle.rules.proofs.Orderly.{orderly}
 use Rattle.maps.specs.State as maps-state
 use Rattle.maps.specs.State.{Mapped}
 use Rattle.maps.specs.Sound as maps-sound

@@ -15,7 +15,7 @@ use Rattle.rules.specs.declared.row.Effect.{Effect}
 use Rattle.rules.specs.State.{State, record_of}
 use Rattle.rules.specs.Seen.{Input, see}
 use Rattle.rules.specs.Row.{Row, judge, placed}
-use Rattle.rules.specs.Booking.{meant, meant_stands, one_pair, cancel_bind}
+use Rattle.rules.specs.Booking.{meant, meant_stands, one_pair}
 use Rattle.rules.specs.Verdict.{failed, proceed_with_carrier, cancel_carrier}
 use Rattle.rules.specs.Reading.{elsewhere, displaced, id_read}
 use Rattle.rules.specs.Opening.{slot_map}

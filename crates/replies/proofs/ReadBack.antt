@@ -1,5 +1,5 @@
 -- The reader of items reads back exactly the tree written, for every answer number.
-use Prim.Native.Nat.{ℕ, ◌+◌, ◌%◌, ◌^◌, ◌≤◌}
+use Prim.Native.Nat.{ℕ, ◌%◌, ◌^◌, ◌≤◌}
 use native.Mathlib.Omega.{arith}
 use native.Mathlib.Nat.{zero-add}
 use mathlib.Core.Path.{◌≡◌, refl, sym, ◌∙◌}
@@ -10,7 +10,6 @@ use lib.ListN.{length, take, drop}
 use lib.Seq.{take_at}
 use lib.Dec.{eqb, ltb}
 use borrow.Author.Tests.{leb-true, lt-ltb, eq-eqb}
-use Rattle.lists.specs.Lists.{every}
 use Rattle.lists.proofs.Bools.{cond_ind}
 use Rattle.items.specs.Formats.{size_of, uneven}
 use Rattle.items.specs.Tree.{in_order}

@@ -53,7 +53,7 @@ of_messages =
 abbrev pub of_logs : List Line
 of_logs =
     (27 says "Log: another mark or version")
-    ∷ (28 says "Log: set_up_fact out of range")
+    ∷ (28 says "Log: set-up out of range")
     ∷ (29 says "Log: cut short")
     ∷ []
 

@@ -11,7 +11,7 @@ fn by_logs(number: u32, room: &mut [u8], told: &mut u32) -> u8
 {
     match number {
         27 => refused(number, b"Log: another mark or version", room, told),
-        28 => refused(number, b"Log: set_up_fact out of range", room, told),
+        28 => refused(number, b"Log: set-up out of range", room, told),
         29 => refused(number, b"Log: cut short", room, told),
         _ => refused(number, b"Unknown refusal", room, told),
     }

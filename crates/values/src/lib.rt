@@ -1,3 +1,4 @@
 // Request P3: attribute values, held as what they were sent as.
 #![tactic(auto)]
+
 pub mod value;

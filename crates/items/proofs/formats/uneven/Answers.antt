@@ -1,0 +1,11 @@
+use borrow.Author.Tests.{eq-eqb, ne_eqb}
+use Rattle.items.specs.Formats.{uneven}
+use Rattle.items.proofs.formats.uneven.Goals as goal
+
+pub returns-then-size-eq0 : goal.returns-then-size-eq0
+unfolding uneven
+returns-then-size-eq0 c = simp (eq-eqb _ _ c.if-size-eq0.true)
+
+pub returns-else-size-eq0 : goal.returns-else-size-eq0
+unfolding uneven
+returns-else-size-eq0 c = simp (ne_eqb _ _ c.if-size-eq0.false)

@@ -1,6 +1,0 @@
-use Rattle.ports.proofs.service.cancel_reservation_at_port_effect.Statement.{statement}
-use Rattle.ports.proofs.service.cancel_reservation_at_port_effect.Tie as tie
-
-pub cancel_reservation_at_port_effect_spec : {M : Type 1} → statement M
-cancel_reservation_at_port_effect_spec =
-    tie.close (tie.spec (λ c κs. tt) (λ c κs. tt) (λ c. rw (c.on_port.ensures, c.before.with-reserved.ensures)))

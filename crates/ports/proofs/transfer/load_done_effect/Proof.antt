@@ -1,5 +1,0 @@
-use Rattle.ports.proofs.transfer.load_done_effect.Statement.{statement}
-use Rattle.ports.proofs.transfer.load_done_effect.Tie as tie
-
-pub load_done_effect_spec : {M : Type 1} → statement M
-load_done_effect_spec = tie.close (tie.spec (λ c κs. tt) (λ c κs. tt) (λ c. rw (c.on_port.ensures, c.before.loaded.ensures)))

@@ -1,5 +1,0 @@
-use Rattle.ports.proofs.transfer.load_start_answer.Statement.{statement}
-use Rattle.ports.proofs.transfer.load_start_answer.Tie as tie
-
-pub load_start_answer_spec : {M : Type 1} → statement M
-load_start_answer_spec = tie.close (tie.spec (λ c κs. tt) (λ c κs. tt) (λ c. rw (c.first2.ensures, c.before.first.ensures)))

@@ -1,5 +1,0 @@
-use Rattle.ports.proofs.transfer.unload_fail_effect.Statement.{statement}
-use Rattle.ports.proofs.transfer.unload_fail_effect.Tie as tie
-
-pub unload_fail_effect_spec : {M : Type 1} → statement M
-unload_fail_effect_spec = tie.close (tie.spec (λ c κs. tt) (λ c κs. tt) (λ c. rw (c.on_port.ensures, c.before.not-unloaded.ensures)))
