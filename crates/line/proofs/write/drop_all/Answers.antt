@@ -23,6 +23,7 @@ loop-k-init c =
     let a : left_of l c.args.n ≡ l = ap (left_of l) (sym e) ∙ left_all l in
     (c.requires.n_bound, omega arith, rw a (sym e), rw a c.requires.m_value, kept_all _ _ _)
 
+-- one turn, of the request before position k
 module _ (q r : List Request) (n k left : ℕ) (few : n ≤ 16) (long : length q ≡ 16) (h : 0 < k) (b : k ≤ n)
     (counted : left ≡ length (left_of (take n q) k)) (laid : r ≡ fill 16 no_request (left_of (take n q) k)) where
   abbrev l : List Request
