@@ -1,5 +1,6 @@
 // Request P5: the queue for CarrierOut in the bytes of a tool.
 #![tactic(auto)]
+
 pub mod asked;
 pub mod change;
 pub mod find;

@@ -1,0 +1,4 @@
+use Rattle.line.proofs.find.gather.Goals as goal
+
+pub returns : goal.returns
+returns c = cc
