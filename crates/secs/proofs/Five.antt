@@ -13,7 +13,7 @@ use Rattle.items.specs.Reading.{Reading, read_many, read_item, read_message}
 use Rattle.items.specs.declared.head.Span.{Span}
 use Rattle.items.proofs.Found.{next, code_found, list_found}
 use Rattle.secs.specs.Texts.{Bind, CarrierNotification, ProceedWithCarrier, CancelCarrier, row_of}
-use Rattle.secs.specs.Shape.{is_list_of, has_parts, action, row_in}
+use Rattle.secs.specs.Shape.{is_list_of, has_parts, row_in}
 use Rattle.secs.specs.InPlace.{code_at, parts_at, kinds_at, row_at}
 use Rattle.secs.proofs.Placed.{list_of_is, other_code, named_is}
 
