@@ -1,4 +1,5 @@
-use borrow.Author.Rules.{rules}
+-- P ports and B places, and nothing else
+use Rattle.std.proofs.Common.{rules}
 use borrow.Author.Tests.{le-leb, lt-leb}
 use native.Mathlib.Omega.{arith}
 use Prim.Native.Nat.{ℕ, ◌≤◌, ◌<◌}
@@ -15,10 +16,8 @@ use Rattle.rules.specs.State.{no_tool, in_tool, set_up}
 use Rattle.image.specs.Image.{tool_from}
 use Rattle.parts.specs.Apply.{to_ports}
 use Rattle.machine.proofs.Fresh.{sizes_put}
-use Rattle.machine.proofs.setup.setup.Statement.{statement}
-use Rattle.machine.proofs.setup.setup.Tie as tie
+use Rattle.machine.proofs.setup.setup.Goals as goal
 
--- P ports and B places, and nothing else
 abbrev sized : ℕ → ℕ → Tool
 sized p b = record { used = p; places = b; count = 0; ports = fill 4 no_port (replicate p new_port); carriers = replicate 36 no_carrier }
 
@@ -40,40 +39,35 @@ too_large : (p b : ℕ) → 1 ≤ p → p ≤ 4 → 16 < b → ◌≡◌ {A = Se
 unfolding set_up
 too_large p b i j k = rw (le-leb _ _ i, le-leb _ _ j, lt-leb _ _ k)
 
-returns : tie.Need-returns
-returns c =
-    let f = c.before.before.before in
-    let i = f.before.before in
-    let a = i.before.before.before.before.before.args in
-    let m = f.fresh-ports.new.0 in
+pub fresh_ports-requires : goal.fresh_ports-requires
+fresh_ports-requires c = record { p_bound = search rules; m_value = c.no_tool.ensures }
+
+pub returns-then-b-le-MOST_PLACES : goal.returns-then-b-le-MOST_PLACES
+returns-then-b-le-MOST_PLACES c =
+    let a = c.args in
+    let m = c.fresh_ports.new.m in
     let l : length m ≡ 1891 = omega arith in
-    let o = accepted a.p a.b i.before.before.if1.true i.before.if2.true i.if3.true in
-    let t : tool_from m ≡ to_ports no_tool (fill 4 no_port (replicate a.p new_port)) = f.fresh-ports.ensures in
-    let e : tool_from c.put.new.0 ≡ sized a.p a.b =
+    let o = accepted a.p a.b c.if-p-ge1.true c.if-p-le-MOST_PORTS.true c.if-b-le-MOST_PLACES.true in
+    let t : tool_from m ≡ to_ports no_tool (fill 4 no_port (replicate a.p new_port)) = c.fresh_ports.ensures in
+    let e : tool_from c.put.new.m ≡ sized a.p a.b =
     ap tool_from c.put.ensures ∙ sizes_put m l a.p a.b
     ∙ ap (λ t. record { used = a.p; places = a.b; count = t.count; ports = t.ports; carriers = t.carriers }) t in
-    (e ∙ ap (λ x. x.tool) o, ap (λ x. x.answer) o)
+    record { m_after = e ∙ ap (λ x. x.tool) o; value = ap (λ x. x.answer) o }
 
-returns_2 : tie.Need-returns-2
-returns_2 c =
-    let a = c.before.before.before.before.before.args in
-    let o = too_large a.p a.b c.before.before.if1.true c.before.if2.true c.if3.false in
-    (c.before.before.before.no-tool.ensures ∙ ap (λ x. x.tool) o, ap (λ x. x.answer) o)
+pub returns-else-b-le-MOST_PLACES : goal.returns-else-b-le-MOST_PLACES
+returns-else-b-le-MOST_PLACES c =
+    let a = c.args in
+    let o = too_large a.p a.b c.if-p-ge1.true c.if-p-le-MOST_PORTS.true c.if-b-le-MOST_PLACES.false in
+    record { m_after = c.no_tool.ensures ∙ ap (λ x. x.tool) o; value = ap (λ x. x.answer) o }
 
-returns_3 : tie.Need-returns-3
-returns_3 c =
-    let a = c.before.before.before.before.args in
-    let o = too_many a.p a.b c.before.if1.true c.if2.false in
-    (c.before.before.no-tool.ensures ∙ ap (λ x. x.tool) o, ap (λ x. x.answer) o)
+pub returns-else-p-le-MOST_PORTS : goal.returns-else-p-le-MOST_PORTS
+returns-else-p-le-MOST_PORTS c =
+    let a = c.args in
+    let o = too_many a.p a.b c.if-p-ge1.true c.if-p-le-MOST_PORTS.false in
+    record { m_after = c.no_tool.ensures ∙ ap (λ x. x.tool) o; value = ap (λ x. x.answer) o }
 
-returns_4 : tie.Need-returns-4
-returns_4 c =
-    let a = c.before.before.before.args in
-    let o = too_few a.p a.b c.if1.false in
-    (c.before.no-tool.ensures ∙ ap (λ x. x.tool) o, ap (λ x. x.answer) o)
-
-pub setup_spec : {M : Type 1} → statement M
-setup_spec =
-    tie.close
-    (tie.spec (λ c κs. tt) (λ c κs. (search rules, c.before.before.before.before.no-tool.ensures)) (λ c. search rules)
-    (λ c. search rules) (λ c. search rules) (λ c κs. omega arith) returns returns_2 returns_3 returns_4)
+pub returns-else-p-ge1 : goal.returns-else-p-ge1
+returns-else-p-ge1 c =
+    let a = c.args in
+    let o = too_few a.p a.b c.if-p-ge1.false in
+    record { m_after = c.no_tool.ensures ∙ ap (λ x. x.tool) o; value = ap (λ x. x.answer) o }
