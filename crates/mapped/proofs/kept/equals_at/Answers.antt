@@ -1,4 +1,4 @@
-use borrow.Author.Rules.{rules}
+use Rattle.std.proofs.Common.{rules}
 use Prim.Native.Nat.{ℕ, ◌*◌, ◌<◌}
 use mathlib.Core.Path.{◌≡◌, refl}
 use mathlib.Core.Bool.{false, not, ◌&&◌}
@@ -12,8 +12,7 @@ use Rattle.follow.proofs.Entries.{entry_out}
 use Rattle.maps.specs.Expected.{no_map, equals}
 use Rattle.mapped.specs.Bytes.{maps_from}
 use Rattle.mapped.proofs.InBytes.{map_is}
-use Rattle.mapped.proofs.kept.equals_at.Statement.{statement}
-use Rattle.mapped.proofs.kept.equals_at.Tie as tie
+use Rattle.mapped.proofs.kept.equals_at.Goals as goal
 
 equal_is : (m : List ℕ) (k : ℕ) (x : List ℕ) → k < 36 → length x ≡ 25
     → (not (every is_zero (bytes_from m (25 * k) 25)) && same_list (bytes_from m (25 * k) 25) (table 25 (λ i. get_or x i 0)))
@@ -25,20 +24,13 @@ none_equal : (x : List ℕ) → equals no_map x ≡ false
 unfolding equals every
 none_equal x = refl
 
-returns : tie.Need-returns
-returns c =
-    let z = c.before.before in
-    let u = z.before in
-    let a = u.before.args in
-    let l : length a.t3 ≡ 25 = search rules in
-    rw (c.same_codes.ensures, z.zeros.ensures) (equal_is a.m.now a.k a.t3 u.if1.true l)
+pub returns-then-k-lt-RECORDS : goal.returns-then-k-lt-RECORDS
+returns-then-k-lt-RECORDS c =
+    let a = c.args in
+    let l : length a.map ≡ 25 = search rules in
+    rw (c.same_codes.ensures, c.zeros-none.ensures) (equal_is a.m.now a.k a.map c.if-k-lt-RECORDS.true l)
 
-returns_2 : tie.Need-returns-2
-returns_2 c =
-    let a = c.before.args in
-    rw (entry_out 0 25 a.m.now a.k c.if1.false, none_equal a.t3)
-
-pub equals_at_spec : {M : Type 1} → statement M
-equals_at_spec =
-    tie.close
-    (tie.spec (λ c. search rules) (λ c κs. search rules) (λ c. search rules) (λ c κs. search rules) returns returns_2)
+pub returns-else-k-lt-RECORDS : goal.returns-else-k-lt-RECORDS
+returns-else-k-lt-RECORDS c =
+    let a = c.args in
+    rw (entry_out 0 25 a.m.now a.k c.if-k-lt-RECORDS.false, none_equal a.map)
