@@ -1,20 +1,18 @@
 -- OutDone: what the code puts together is what it gives.
 use Prim.Native.Nat.{ℕ, ◌<◌, ◌≤◌}
 use native.Mathlib.Omega.{arith}
-use mathlib.Core.Path.{◌≡◌, refl, ap, sym, subst⁻¹, ◌∙◌}
+use mathlib.Core.Path.{◌≡◌, ap, sym, subst⁻¹, ◌∙◌}
 use mathlib.Core.Bool.{true, false}
 use mathlib.Core.List.{List, []}
 use lib.ListN.{length, get_or, set, take, length-set}
 use lib.Seq.{take_all, get_or-set_same, get_or-set_other}
 use Rattle.lists.specs.Lists.{any, fill, without}
-use Rattle.records.specs.declared.name.Name.{Name}
 use Rattle.records.specs.Names.{no_name}
 use Rattle.rules.specs.declared.row.Effect.{Effect}
-use Rattle.rules.specs.State as base
 use Rattle.rules.specs.declared.tool.Tool.{Tool}
 use Rattle.rules.specs.Seen.{Input, narrow, see}
 use Rattle.rules.specs.Row as row
-use Rattle.rules.specs.Reports.{no_reports, listed, differences}
+use Rattle.rules.specs.Reports.{no_reports}
 use Rattle.image.specs.Image.{tool_from, reports_from}
 use Rattle.parts.specs.Apply.{applied}
 use Rattle.parts.specs.Told.{note_all}
@@ -22,15 +20,14 @@ use Rattle.parts.proofs.Bridge.{bridge}
 use Rattle.machine.proofs.Answered.{told_by}
 use Rattle.follow.specs.Follow.{KeptOutside}
 use Rattle.maps.specs.State as maps
-use Rattle.maps.specs.Expected.{no_map}
 use Rattle.mapped.specs.declared.step.Moved.{Moved}
-use Rattle.mapped.specs.Bytes.{maps_from, own_in, mapped_in}
+use Rattle.mapped.specs.Bytes.{maps_from, own_in}
 use Rattle.mapped.proofs.Carried.{reports_are}
 use Rattle.queue.specs.declared.request.Request.{Request}
 use Rattle.queue.specs.Requests.{no_request, started_to, started_stands}
 use Rattle.queue.specs.State.{Queued, base_of, state_of, in_tool}
 use Rattle.queue.specs.Sound.{sound_tool}
-use Rattle.queue.specs.Outcome.{answer_in, state_after, goes_in, made_in, given_in}
+use Rattle.queue.specs.Outcome.{answer_in, state_after, given_in}
 use Rattle.queue.proofs.Free.{nobody_last}
 use Rattle.queue.proofs.Outs.{hands_out}
 use Rattle.queue.proofs.SoundRuns.{sound_parts, sound_after}
@@ -38,7 +35,7 @@ use Rattle.queue.proofs.Ended.{under_way_there, done_accepted, base_then, maps_t
 use Rattle.line.specs.Bytes.{waiting_in, queue_from, queue_of, Holds}
 use Rattle.line.proofs.Changed.{kept_wider}
 use Rattle.queued.specs.Bytes.{queued_in, left}
-use Rattle.queued.proofs.Held.{tool, held, base_is, maps_again, count_is, state_sound, maps_stay}
+use Rattle.queued.proofs.Held.{tool, held, base_is, maps_again, state_sound, maps_stay}
 use Rattle.queued.proofs.Given.{given_of}
 
 module _ (m : List (List ℕ)) (h : sound_tool (queued_in m) ≡ true) (i : Input) (z : i.number ≡ 28)

@@ -1,7 +1,7 @@
 -- What the bytes of a sound tool hold.
 use Prim.Native.Nat.{ℕ, ◌≤◌}
 use native.Mathlib.Omega.{arith}
-use mathlib.Core.Path.{◌≡◌, refl, ap, sym, ◌∙◌}
+use mathlib.Core.Path.{◌≡◌, ap, sym, ◌∙◌}
 use mathlib.Core.Bool.{true}
 use mathlib.Core.List.{List, []}
 use lib.ListN.{length, get_or, take, drop}
@@ -13,7 +13,7 @@ use Rattle.rules.specs.State as base
 use Rattle.rules.specs.Sound as base_sound
 use Rattle.rules.specs.Held.{Held}
 use Rattle.rules.proofs.Holding.{sound_held, used_held, count_held}
-use Rattle.image.specs.Image.{tool_from, bytes_from}
+use Rattle.image.specs.Image.{tool_from}
 use Rattle.image.proofs.Table.{table_same}
 use Rattle.image.proofs.Laid.{ports_long, carriers_long}
 use Rattle.follow.specs.Follow.{KeptOutside, entries_from}

@@ -2,15 +2,14 @@
 use Prim.Native.Nat.{ℕ, ◌≤◌}
 use native.Mathlib.Omega.{arith}
 use mathlib.Core.Path.{◌≡◌, refl, ap, sym, ◌∙◌}
-use mathlib.Core.Bool.{Bool, true, false, ◌&&◌}
+use mathlib.Core.Bool.{Bool, true, false}
 use mathlib.Core.List.{List, [], ◌∷◌}
 use lib.ListN.{length, get_or}
 use lib.Seq.{set_out}
 use borrow.Author.Tests.{eqb-true, eq-eqb}
 use Rattle.lists.specs.Lists.{any}
-use Rattle.lists.proofs.Bools.{clash, and_i}
+use Rattle.lists.proofs.Bools.{clash}
 use Rattle.lists.proofs.Tables.{without_out}
-use Rattle.lists.proofs.Tests.{any_here, where_holds}
 use Rattle.records.specs.declared.name.Name.{Name}
 use Rattle.records.specs.declared.port.Port.{Port}
 use Rattle.records.specs.declared.carrier.Carrier.{Carrier}
@@ -41,15 +40,14 @@ use Rattle.maps.specs.Projection as maps-runs
 use Rattle.maps.proofs.SoundRuns as maps-proofs
 use Rattle.mapped.proofs.Seven as mapped
 use Rattle.queue.specs.declared.request.Request.{Request}
-use Rattle.queue.specs.Requests.{no_request, is_of, started_to, started_stands, carrier_of}
+use Rattle.queue.specs.Requests.{no_request, started_to, started_stands, carrier_of}
 use Rattle.queue.specs.State.{Queued, base_of}
 use Rattle.queue.specs.Sound.{sound}
 use Rattle.queue.specs.Rows.{Row, out_done}
 use Rattle.queue.specs.Dispatch.{is_under_way, HeldFor}
-use Rattle.queue.specs.Outcome.{row_in, answers_in, answer_in, enact, state_after}
+use Rattle.queue.specs.Outcome.{row_in, answers_in, answer_in, state_after}
 use Rattle.queue.proofs.Free.{Free, free_is, nobody, none_zero, nobody_last}
 use Rattle.queue.proofs.After.{name_held}
-use Rattle.queue.proofs.Lines.{some_stands}
 use Rattle.queue.proofs.Outs.{hands_out}
 use Rattle.queue.proofs.SoundRuns.{sound_parts, own_zero, below_zero, last_zero, cleared}
 use Rattle.queue.proofs.Ended.{under_way_there, row_done, base_then, out_apt, held}
