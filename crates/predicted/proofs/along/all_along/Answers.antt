@@ -1,22 +1,19 @@
 -- The first k have moved along; what is still to be told gives the same.
-use borrow.Author.Rules.{rules}
+-- what each asks, and where all of them are in the end
 use native.Mathlib.Omega.{arith}
-use Prim.Native.Nat.{ℕ, suc, ◌+◌, ◌-◌, ◌≤◌, ◌<◌}
+use Prim.Native.Nat.{ℕ, suc, ◌+◌, ◌<◌}
 use mathlib.Core.Path.{◌≡◌, refl, ap, sym, ◌∙◌}
 use mathlib.Core.Bool.{Bool}
 use mathlib.Core.List.{List, [], ◌++◌}
 use lib.ListN.{length, get_or, set, drop, drop_of_length-le}
-use lib.Seq.{length-take-le}
 use Rattle.lists.specs.Lists.{fill}
 use Rattle.records.specs.declared.carrier.Carrier.{Carrier}
 use Rattle.rules.specs.declared.report.Reports.{Reports}
 use Rattle.rules.specs.State.{state_of, record_of}
 use Rattle.rules.specs.Held.{Held}
-use Rattle.rules.proofs.Holding.{count_held}
 use Rattle.image.specs.Image.{tool_from, reports_from}
 use Rattle.parts.specs.Told.{note_all}
 use Rattle.parts.proofs.Notes.{note_all_append}
-use Rattle.follow.specs.Follow.{KeptOutside}
 use Rattle.follow.proofs.Entries.{kept_all, kept_twice}
 use Rattle.mapped.specs.Bytes.{own_in}
 use Rattle.prediction.specs.declared.prediction.Prediction.{Prediction}
@@ -25,30 +22,16 @@ use Rattle.prediction.specs.declared.prediction.Facts.{Facts}
 use Rattle.prediction.specs.Predictions.{no_prediction}
 use Rattle.prediction.specs.Outcome.{Moved, along, told, all_along, all_told}
 use Rattle.times.specs.Bytes.{predictions_from}
-use Rattle.times.proofs.Laid.{predictions_long}
-use Rattle.predicted.specs.Bytes.{base_in, used_in, NoneAfter, facts_in}
+use Rattle.predicted.specs.Bytes.{base_in, used_in, facts_in}
 use Rattle.predicted.proofs.Turns.{first_of, first_all, turned, untouched, along_length, along_at, told_from}
 use Rattle.predicted.proofs.Movers.{used_long, as_many, fits, told_of}
-use Rattle.predicted.proofs.along.all_along.Statement.{statement}
-use Rattle.predicted.proofs.along.all_along.Tie as tie
+use Rattle.predicted.proofs.along.all_along.Goals as goal
 
--- what each asks, and where all of them are in the end
 abbrev asks : List (List ℕ) → Bool → Times → Carrier → Prediction → Facts
 asks m timed t = facts_in timed t (base_in m)
 
 abbrev ended : List (List ℕ) → Bool → Times → List Prediction
 ended m timed t = all_along (asks m timed t) (base_in m).carriers (used_in m)
-
-abbrev invariant_loop : tie.invariant_loop
-invariant_loop m₀ o₀ timed t n k₀ m o k =
-    (n ≡ (tool_from (get_or m₀ 0 [])).count) × (k ≤ n) × Held (tool_from (get_or m₀ 0 [])) × (get_or m 0 [] ≡ get_or m₀ 0 [])
-    × (predictions_from (own_in m) ≡ fill 36 no_prediction (first_of k (ended m₀ timed t) (used_in m₀)))
-    × (note_all (reports_from o) (all_told (asks m₀ timed t) (drop k (base_in m₀).carriers) (drop k (used_in m₀)))
-    ≡ note_all (reports_from o₀) (all_told (asks m₀ timed t) (base_in m₀).carriers (used_in m₀)))
-    × KeptOutside 1201 1597 (own_in m₀) (own_in m)
-
-abbrev decreases_loop : tie.decreases_loop
-decreases_loop m₀ o₀ timed t n k₀ m o k = n - k
 
 -- one turn, of the carrier at k
 module _ (m₀ m : List (List ℕ)) (timed : Bool) (t : Times) (k : ℕ) (h : Held (tool_from (get_or m₀ 0 [])))
@@ -100,48 +83,37 @@ none_told : (f : Carrier → Prediction → Facts) (r : Reports) {cs : List Carr
 unfolding note_all all_told
 none_told f r ps e = rw e
 
-loop_holds : tie.Need-loop-init invariant_loop decreases_loop
+pub loop-k-init : goal.loop-k-init
 unfolding first_of
-loop_holds c =
-    let s = c.before.before.before in
-    (c.wide.ensures ∙ c.before.count.ensures, omega arith, s.requires.0, refl, s.requires.1, refl, kept_all _ _ _)
+loop-k-init c =
+    (c.wide-n.ensures ∙ c.count.ensures, omega arith, c.requires.held, refl, c.requires.none_after, refl, kept_all _ _ _)
 
-along_at_requires : tie.Need-along-at-requires invariant_loop decreases_loop
-along_at_requires c κs =
-    let b = c.before.before.before in
-    let i = b.loop.invariant in
+pub along_at-requires : goal.along_at-requires
+along_at-requires c =
+    let i = c.loop-k.invariant in
     let f = i.2.few_carriers in
-    (rw i.3 i.2, omega arith)
+    record { held = rw i.3 i.2; k_bound = omega arith }
 
-loop_again : tie.Need-loop-preserved invariant_loop decreases_loop
-loop_again c =
-    let b = c.before.before.before.before in
-    let a = b.before.before.before.before.args in
-    let i = b.loop.invariant in
+pub loop-k-preserved : goal.loop-k-preserved
+loop-k-preserved c =
+    let a = c.args in
+    let i = c.loop-k.invariant in
     let e = c.along_at.ensures in
-    let l = laid_next a.m.now b.loop.m a.timed a.t b.loop.k i.2 (omega arith) i.3 i.4 in
-    let n = told_next a.m.now b.loop.m a.timed a.t b.loop.k i.2 (omega arith) i.3 i.4 (reports_from b.loop.o) _ e.1.1.0 in
-    (i.0, omega arith, i.2, e.0 ∙ i.3, e.1.0 ∙ l, n ∙ i.5, kept_twice 1201 1597 _ _ _ i.6 e.1.1.1)
+    let l = laid_next a.m.now c.loop-k.m a.timed a.t c.loop-k.k i.2 (omega arith) i.3 i.4 in
+    let n = told_next a.m.now c.loop-k.m a.timed a.t c.loop-k.k i.2 (omega arith) i.3 i.4 (reports_from c.loop-k.o) _ e.o_after in
+    (i.0, omega arith, i.2, e.m_unchanged ∙ i.3, e.m_after ∙ l, n ∙ i.5, kept_twice 1201 1597 _ _ _ i.6 e.kept_outside)
 
-returns : tie.Need-returns invariant_loop decreases_loop
+pub returns : goal.returns
 returns c =
-    let b = c.before in
-    let a = b.before.before.before.before.args in
-    let i = b.loop.invariant in
+    let a = c.args in
+    let i = c.loop-k.invariant in
     let m = a.m.now in
-    let all : b.loop.k ≡ length (used_in m) = let l = used_long m i.2 in let e = i.0 in omega arith in
+    let all : c.loop-k.k ≡ length (used_in m) = let l = used_long m i.2 in let e = i.0 in omega arith in
     let most = as_many m i.2 in
-    let none : drop b.loop.k (base_in m).carriers ≡ [] = drop_of_length-le (base_in m).carriers {i = b.loop.k} (omega arith) in (
-      i.3,
-      (
-        i.4 ∙ ap (λ k. fill 36 no_prediction (first_of k (ended m a.timed a.t) (used_in m))) all
-            ∙ ap (fill 36 no_prediction) (first_all no_prediction _ (used_in m) (along_length (asks m a.timed a.t) _ _ (as_many m i.2))),
-        (sym (none_told (asks m a.timed a.t) (reports_from b.loop.o) _ none) ∙ i.5, i.6),
-      ),
-    )
-
-pub all_along_spec : {M : Type 1} → statement M
-all_along_spec =
-    tie.close
-    (tie.spec invariant_loop decreases_loop (λ c. search rules) (λ c κs. tt) (λ c κs. tt) loop_holds along_at_requires (λ c. search rules)
-    (λ c. search rules) loop_again returns)
+    let none : drop c.loop-k.k (base_in m).carriers ≡ [] = drop_of_length-le (base_in m).carriers {i = c.loop-k.k} (omega arith) in record {
+      m_unchanged = i.3;
+      m_after = i.4 ∙ ap (λ k. fill 36 no_prediction (first_of k (ended m a.timed a.t) (used_in m))) all
+          ∙ ap (fill 36 no_prediction) (first_all no_prediction _ (used_in m) (along_length (asks m a.timed a.t) _ _ (as_many m i.2)));
+      o_after = sym (none_told (asks m a.timed a.t) (reports_from c.loop-k.o) _ none) ∙ i.5;
+      kept_outside = i.6;
+    }
