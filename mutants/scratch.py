@@ -7,6 +7,7 @@ import re
 import shutil
 import signal
 import subprocess
+import tempfile
 
 from rattle import without_code
 from said import Said, heard
@@ -34,21 +35,22 @@ def standing_on(crate, deps):
 
 
 class Scratch:
-    def __init__(self, repo, folder, limit, top=None):
-        """`top`: the copy has this crate and those below it, without their code, so that theorems alone can refuse."""
+    def __init__(self, repo, limit, top=None):
+        """`top`: the copy has this crate and those below it, without their code, so that theorems alone can refuse.
+        It lies outside the repository, in which `rt ci` wants no other crates than its own."""
         self.repo, self.limit, self.top = repo, limit, top
+        folder = tempfile.mkdtemp(prefix="mutants-")
         self.root, self.pristine = os.path.join(folder, "tree"), os.path.join(folder, "pristine")
         self.deps = crates_in_order(repo)
         if top:
             self.deps = {name: self.deps[name] for name in self.deps if name in [*self.deps[top], top]}
         self.above, self.touched, self.lean = [], set(), ""
         self.process = None
+        atexit.register(shutil.rmtree, folder, ignore_errors=True)
         atexit.register(self.stop)
 
     def prepare(self, say):
         """Copies the repository with what is proved of it, and sees that each crate is proved before any change."""
-        shutil.rmtree(self.root, ignore_errors=True)
-        shutil.rmtree(self.pristine, ignore_errors=True)
         left_out = {"target", ".git", "__pycache__"}
         shutil.copytree(self.repo, self.root, ignore=lambda folder, names: left_out & set(names))
         if self.top:
