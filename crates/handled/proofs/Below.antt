@@ -1,5 +1,5 @@
 -- An input below, and then the alarms: what is left is what the definitions give.
-use Prim.Native.Nat.{ℕ, ◌+◌}
+use Prim.Native.Nat.{ℕ}
 use native.Mathlib.Omega.{arith}
 use mathlib.Core.Path.{◌≡◌, refl, ap, ap₂, sym, ◌∙◌}
 use mathlib.Core.Logic.{◌≢◌}
@@ -40,7 +40,7 @@ use Rattle.hands.specs.declared.alarm.Alarm.{Alarm}
 use Rattle.hands.specs.Alarms.{no_alarm}
 use Rattle.hands.specs.State.{Handled, base_of, state_of, in_tool}
 use Rattle.hands.specs.Sound.{sound_tool}
-use Rattle.hands.specs.Outcome.{Given, refused, accepted, all_settled, alarms_told}
+use Rattle.hands.specs.Outcome.{Given, accepted, all_settled, alarms_told}
 use Rattle.hands.proofs.Settled.{settled_long}
 use Rattle.hands.proofs.Below.{ports_stay}
 use Rattle.handled.specs.Bytes.{alarms_from, handled_in, left}

@@ -1,5 +1,6 @@
 // Request P9: hands on an AUTO port, in the bytes. The step of a tool that is known to be sound.
 #![tactic(auto)]
+
 pub mod alarm;
 pub mod layout;
 pub mod loads;

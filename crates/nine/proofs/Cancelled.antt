@@ -24,7 +24,7 @@ use Rattle.rules.specs.Row as row
 use Rattle.rules.specs.Row.{placed}
 use Rattle.rules.specs.Verdict.{cancel_at, cancel_port, cancel_carrier}
 use Rattle.rules.specs.Rows as base-rows
-use Rattle.rules.specs.Reports.{report_if, change, tie_number, differences}
+use Rattle.rules.specs.Reports.{tie_number, differences}
 use Rattle.rules.proofs.Apt.{Apt}
 use Rattle.rules.proofs.SoundFacts.{few_ports, distinct}
 use Rattle.rules.proofs.SoundParts.{Facts}

@@ -4,12 +4,12 @@ use native.Mathlib.Omega.{arith}
 use mathlib.Core.Path.{◌≡◌, refl, ap, sym, ◌∙◌}
 use mathlib.Core.Bool.{Bool, true, false, not, cond, ◌&&◌, ◌||◌}
 use mathlib.Core.List.{List, [], ◌∷◌}
-use lib.ListN.{length, get_or}
+use lib.ListN.{length}
 use lib.Dec.{eqb, leb}
 use borrow.Author.Tests.{leb-true, leb-false, le-leb, eq-eqb, ne_eqb}
 use Rattle.lists.specs.Lists.{every}
 use Rattle.lists.proofs.Tests.{every_at}
-use Rattle.lists.proofs.Bools.{and_l, and_r, or_r, or_other, not_true}
+use Rattle.lists.proofs.Bools.{or_r, or_other, not_true}
 use Rattle.prediction.specs.declared.prediction.Facts.{Facts}
 use Rattle.prediction.specs.Predictions.{as_it_is}
 use Rattle.prediction.proofs.Modelled.{always, always_holds, states, at_own}

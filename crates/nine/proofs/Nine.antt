@@ -11,7 +11,7 @@ use Rattle.lists.specs.Lists.{how_many}
 use Rattle.lists.proofs.Bools.{clash, and_l}
 use Rattle.lists.proofs.Tables.{without_out}
 use Rattle.records.specs.declared.carrier.Carrier.{Carrier}
-use Rattle.records.specs.Carriers.{no_carrier, at_port}
+use Rattle.records.specs.Carriers.{at_port}
 use Rattle.rules.specs.State.{State, record_of}
 use Rattle.rules.specs.Reports.{differences}
 use Rattle.rules.proofs.SoundParts as base-parts

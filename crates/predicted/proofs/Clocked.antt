@@ -1,26 +1,23 @@
 -- What an input that brings a clock leaves: below nothing moves, and no record goes or is made.
 use Prim.Native.Nat.{ℕ}
 use native.Mathlib.Omega.{arith}
-use mathlib.Core.Path.{◌≡◌, refl, ap, sym, ◌∙◌}
-use mathlib.Core.Bool.{Bool, true, false, cond, ◌&&◌}
+use mathlib.Core.Path.{◌≡◌, ap, sym, ◌∙◌}
+use mathlib.Core.Bool.{true, false, cond}
 use mathlib.Core.List.{List, [], ◌∷◌, ◌++◌}
-use lib.ListN.{length, get_or, take, get_or-eq_default}
+use lib.ListN.{length, get_or, get_or-eq_default}
 use lib.Dec.{eqb}
-use Rattle.lists.specs.Lists.{without, with_new}
 use Rattle.lists.proofs.Tables.{without_out}
 use Rattle.rules.specs.declared.report.Report.{Report}
 use Rattle.rules.specs.declared.row.Seen.{Seen}
-use Rattle.rules.specs.State.{State, record_of}
 use Rattle.rules.specs.Sound as base_sound
 use Rattle.rules.specs.Seen.{see}
 use Rattle.rules.specs.Reports.{differences}
 use Rattle.follow.specs.Follow.{followed, KeptOutside}
 use Rattle.image.proofs.Table.{table_same}
 use Rattle.image.specs.Image.{tool_from}
-use Rattle.line.specs.Bytes.{request_start, waiting_in, queue_from}
+use Rattle.line.specs.Bytes.{request_start, queue_from}
 use Rattle.line.proofs.Written.{request_same}
-use Rattle.mapped.specs.Bytes.{own_in, maps_from, mapped_in}
-use Rattle.maps.specs.State.{MappedTool}
+use Rattle.mapped.specs.Bytes.{own_in}
 use Rattle.queue.specs.declared.request.Request.{Request}
 use Rattle.queue.specs.State as queue
 use Rattle.queue.specs.State.{QueuedTool}
@@ -32,7 +29,7 @@ use Rattle.rules.specs.declared.tool.Tool.{Tool}
 use Rattle.prediction.specs.declared.prediction.Prediction.{Prediction}
 use Rattle.prediction.specs.declared.prediction.Times.{Times}
 use Rattle.prediction.specs.Predictions.{no_prediction}
-use Rattle.prediction.specs.State.{Predicted, base_of, Timed, is_fixed, first_prediction}
+use Rattle.prediction.specs.State.{Predicted, base_of, Timed}
 use Rattle.prediction.specs.Outcome as outcome
 use Rattle.prediction.specs.Outcome.{is_timed, says_of, below_in, told}
 use Rattle.predicted.specs.Bytes.{told_after}

@@ -1,6 +1,5 @@
 -- What any other input leaves: the predictions follow the records, and then move along.
 use Prim.Native.Nat.{ℕ, ◌-◌}
-use native.Mathlib.Omega.{arith}
 use mathlib.Core.Path.{◌≡◌, refl, ap, ap₂, sym, ◌∙◌}
 use mathlib.Core.Bool.{Bool, true, false, not, cond, ◌&&◌}
 use mathlib.Core.List.{List, [], ◌∷◌, ◌++◌, append_assoc}
@@ -12,7 +11,7 @@ use Rattle.rules.specs.declared.report.Report.{Report}
 use Rattle.rules.specs.declared.report.Reports.{Reports}
 use Rattle.rules.specs.State.{State, record_of}
 use Rattle.rules.specs.Seen.{see}
-use Rattle.rules.specs.Reports.{listed, no_reports, report_if, differences}
+use Rattle.rules.specs.Reports.{listed, no_reports, report_if}
 use Rattle.parts.specs.Told.{note_all}
 use Rattle.parts.proofs.Notes.{note_all_append, all_noted}
 use Rattle.follow.specs.Follow.{followed_in}
@@ -20,14 +19,13 @@ use Rattle.queue.specs.State as queue
 use Rattle.queue.specs.State.{QueuedTool}
 use Rattle.queue.specs.Outcome as below
 use Rattle.prediction.specs.declared.prediction.Prediction.{Prediction}
-use Rattle.prediction.specs.declared.prediction.Times.{Times}
 use Rattle.prediction.specs.Model.{waiting_for_carrier}
-use Rattle.prediction.specs.Predictions.{no_prediction, new_prediction}
-use Rattle.prediction.specs.State.{Predicted, base_of, Timed, is_fixed, first_prediction}
+use Rattle.prediction.specs.Predictions.{no_prediction}
+use Rattle.prediction.specs.State.{Predicted, base_of, Timed, is_fixed}
 use Rattle.prediction.specs.Sound.{sound}
 use Rattle.prediction.specs.Outcome as outcome
 use Rattle.prediction.specs.Outcome.{is_timed, says_of, answer_in, below_in, told}
-use Rattle.prediction.proofs.Effects.{Changes, input_changes}
+use Rattle.prediction.proofs.Effects.{input_changes}
 use Rattle.prediction.proofs.Pairs.{as_long}
 use Rattle.prediction.proofs.SoundRuns.{pairs_kept}
 use Rattle.prediction.proofs.Sounds.{queue_part, pairs_part}

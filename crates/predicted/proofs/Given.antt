@@ -1,13 +1,10 @@
 -- What a step leaves is what the definitions give, refused or accepted.
 use Prim.Native.Nat.{ℕ}
-use mathlib.Core.Path.{◌≡◌, refl, ap, sym, ◌∙◌}
+use mathlib.Core.Path.{◌≡◌, refl, ◌∙◌}
 use mathlib.Core.Logic.{◌≢◌}
-use mathlib.Core.Bool.{Bool, true}
 use mathlib.Core.List.{List, ◌++◌}
-use lib.Dec.{eqb}
 use borrow.Author.Tests.{ne_eqb}
 use Rattle.lists.specs.Lists.{fill}
-use Rattle.rules.specs.declared.report.Report.{Report}
 use Rattle.rules.specs.declared.report.Reports.{Reports}
 use Rattle.rules.specs.State.{State}
 use Rattle.rules.specs.Reports.{no_reports, listed, differences}

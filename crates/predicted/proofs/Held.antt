@@ -1,9 +1,9 @@
 -- What the bytes of a sound tool hold.
 use Prim.Native.Nat.{ℕ}
-use mathlib.Core.Path.{◌≡◌, refl, ap, sym, ◌∙◌}
-use mathlib.Core.Bool.{Bool, true, ◌&&◌}
+use mathlib.Core.Path.{◌≡◌, ap, ◌∙◌}
+use mathlib.Core.Bool.{true, ◌&&◌}
 use mathlib.Core.List.{List, []}
-use lib.ListN.{length, get_or, drop}
+use lib.ListN.{get_or, drop}
 use lib.Dec.{eqb}
 use borrow.Author.Tests.{eqb-true}
 use Rattle.lists.specs.Lists.{every, fill}
@@ -11,9 +11,7 @@ use Rattle.lists.proofs.Bools.{and_l, and_r}
 use Rattle.lists.proofs.Tables.{tail_is, getD_fill}
 use Rattle.rules.specs.Held.{Held}
 use Rattle.image.specs.Image.{tool_from}
-use Rattle.follow.specs.Follow.{KeptOutside}
 use Rattle.line.proofs.Laid.{queue_long}
-use Rattle.line.proofs.Changed.{kept_wider}
 use Rattle.mapped.specs.Bytes.{own_in}
 use Rattle.queue.specs.State as queue
 use Rattle.queue.specs.Sound as queue-sound

@@ -21,7 +21,7 @@ use Rattle.maps.specs.Projection as maps-runs
 use Rattle.queue.specs.declared.request.Request.{Request}
 use Rattle.queue.specs.Requests.{no_request, started_to, started_stands}
 use Rattle.queue.specs.State.{Queued, base_of}
-use Rattle.queue.specs.Rows.{Row, row_of, text_of, comes_out}
+use Rattle.queue.specs.Rows.{Row, text_of, comes_out}
 use Rattle.queue.specs.Outcome as queue
 use Rattle.queue.proofs.Walk.{walk}
 use Rattle.prediction.specs.State as prediction-state

@@ -3,8 +3,8 @@ use Prim.Native.Nat.{ℕ, ◌≤◌}
 use native.Mathlib.Omega.{arith}
 use mathlib.Core.Path.{◌≡◌, refl, ap, sym, ◌∙◌}
 use mathlib.Core.Bool.{Bool, true, false, ◌&&◌}
-use mathlib.Core.List.{List, []}
-use lib.ListN.{length, get_or, take, drop}
+use mathlib.Core.List.{List}
+use lib.ListN.{length, take, drop}
 use lib.Seq.{length-take-le}
 use borrow.Author.Tests.{eq-eqb}
 use Rattle.lists.specs.Lists.{every}
@@ -14,7 +14,7 @@ use Rattle.rules.specs.State as base
 use Rattle.rules.specs.Sound as base_sound
 use Rattle.rules.specs.Held.{Held}
 use Rattle.rules.proofs.Holding.{tool_sound, count_held}
-use Rattle.image.specs.Image.{tool_from, bytes_from}
+use Rattle.image.specs.Image.{bytes_from}
 use Rattle.image.proofs.Table.{table_same}
 use Rattle.passes.specs.Passes.{is_zero}
 use Rattle.follow.specs.Follow.{KeptOutside}
@@ -23,7 +23,6 @@ use Rattle.maps.specs.State.{MappedTool, state_of}
 use Rattle.maps.specs.Sound as maps
 use Rattle.mapped.specs.Bytes.{maps_from, own_in, mapped_in}
 use Rattle.mapped.proofs.InBytes.{maps_long}
-use Rattle.queue.specs.declared.request.Request.{Request}
 use Rattle.queue.specs.State as queue-state
 use Rattle.queue.specs.State.{base_of, QueuedTool}
 use Rattle.queue.specs.Sound as queue

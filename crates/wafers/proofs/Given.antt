@@ -1,17 +1,15 @@
 -- What an input gives, by what it stands for below.
 use Prim.Native.Nat.{ℕ}
-use native.Mathlib.Omega.{arith}
-use mathlib.Core.Path.{◌≡◌, refl, ap, sym, ◌∙◌}
-use mathlib.Core.Bool.{Bool, true, false, cond, ◌&&◌}
+use mathlib.Core.Path.{◌≡◌, refl}
+use mathlib.Core.Bool.{Bool, true, false, cond}
 use lib.Dec.{eqb, leb}
-use borrow.Author.Tests.{eqb-true, eqb-false, leb-true, leb-false, ne_eqb}
 use Rattle.rules.specs.declared.report.Reports.{Reports}
 use Rattle.rules.specs.Row.{lower}
 use Rattle.rules.specs.Reports.{no_reports}
-use Rattle.prediction.specs.State.{Predicted, PredictedTool, state_of, Timed}
+use Rattle.prediction.specs.State.{PredictedTool, state_of}
 use Rattle.prediction.specs.Outcome as prediction
 use Rattle.prediction.specs.Outcome.{Given, refused, accepted}
-use Rattle.wafers.specs.Outcome.{Brought, is_wafers, fits, tp_of, good, with_tp, answer_in, stands_for, state_after, told_of, reports_in, given_in}
+use Rattle.wafers.specs.Outcome.{Brought, is_wafers, fits, tp_of, good, with_tp, answer_in, stands_for, state_after, told_of, given_in}
 
 -- with 12 there is always a number
 pub lower_twelve : (a : ℕ) → eqb (lower a 12) 0 ≡ false

@@ -1,5 +1,5 @@
 -- A tool that holds a sound state is sound after every input.
-use mathlib.Core.Path.{◌≡◌, refl, ap, sym, ◌∙◌}
+use mathlib.Core.Path.{◌≡◌, refl, sym}
 use mathlib.Core.Bool.{Bool, true, false, cond}
 use lib.Dec.{eqb}
 use Rattle.prediction.specs.State.{PredictedTool, state_of}
