@@ -9,6 +9,7 @@ import re
 import sys
 
 TOKEN = re.compile(r"[^\s(){}.;,«»\"|]+")
+STRING = re.compile(r'("(?:[^"\\]|\\.)*")')
 WORD = re.compile(r"[A-Za-z_][A-Za-z0-9_']*(?:-[A-Za-z0-9_\[\]']+)*")
 HEAD = re.compile(r"^\s*(?:(?:abbrev|unfoldable|opaque|pub|record|data)\s+)*((?:[^\s(){}.;,:\"]+\s+)+?):\s")
 USE = re.compile(r"\buse\s+([A-Za-z0-9_.'+-]+?)\.\{([^}]*)\}")
@@ -57,7 +58,7 @@ def code_and_comment(line, mark):
 
 
 def quoted(text, names):
-    return re.sub(r"`[^`]*`", lambda m: WORD.sub(lambda w: names.get(w.group(0), w.group(0)), m.group(0)), text)
+    return re.sub(r"`[^`\s]*`", lambda m: WORD.sub(lambda w: names.get(w.group(0), w.group(0)), m.group(0)), text)
 
 
 def turned(text, names, mark):
@@ -65,7 +66,8 @@ def turned(text, names, mark):
     for line in text.split("\n"):
         code, comment = code_and_comment(line, mark)
         pattern = WORD if mark == "//" else TOKEN
-        code = pattern.sub(lambda m: names.get(m.group(0), m.group(0)), code)
+        parts = STRING.split(code)
+        code = "".join(part if part.startswith('"') else pattern.sub(lambda m: names.get(m.group(0), m.group(0)), part) for part in parts)
         camel = {k: v for k, v in names.items() if "-" not in k}
         comment = quoted(WORD.sub(lambda m: camel.get(m.group(0), m.group(0)), comment), names)
         lines.append(code + comment)
