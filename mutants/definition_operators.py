@@ -3,24 +3,28 @@
 from operators import Mutant, numbers, swapped, text_between
 from tokens import CLOSE, OPEN, group_end
 
-BOOL, NAT, DEC = "mathlib.Core.Bool", "Prim.Native.Nat", "lib.Dec"
+PRELUDE = "Rattle.std.specs.Prelude"
 # old: kind, and for each new text the module that has it and the name it is taken by
 SIGNS = {
-    "&&": ("boolean", [("||", BOOL, "_||_")]),
-    "||": ("boolean", [("&&", BOOL, "_&&_")]),
-    "+": ("arithmetic", [("-", NAT, "_-_")]),
-    "-": ("arithmetic", [("+", NAT, "_+_")]),
-    "*": ("arithmetic", [("+", NAT, "_+_")]),
-    "eqb": ("comparison", [("leb", DEC, "leb")]),
-    "leb": ("comparison", [("ltb", DEC, "ltb"), ("eqb", DEC, "eqb")]),
-    "ltb": ("comparison", [("leb", DEC, "leb")]),
-    "true": ("truth", [("false", BOOL, "false")]),
-    "false": ("truth", [("true", BOOL, "true")]),
-    "when": ("condition", [("unless", "Rattle·rules·specs.specs.Row", "unless")]),
-    "unless": ("condition", [("when", "Rattle·rules·specs.specs.Row", "when")]),
+    "&&": ("boolean", [("||", PRELUDE, "◌||◌")]),
+    "||": ("boolean", [("&&", PRELUDE, "◌&&◌")]),
+    "+": ("arithmetic", [("-", PRELUDE, "◌-◌")]),
+    "-": ("arithmetic", [("+", PRELUDE, "◌+◌")]),
+    "*": ("arithmetic", [("+", PRELUDE, "◌+◌")]),
+    "eqb": ("comparison", [("leb", PRELUDE, "leb")]),
+    "leb": ("comparison", [("ltb", PRELUDE, "ltb"), ("eqb", PRELUDE, "eqb")]),
+    "ltb": ("comparison", [("leb", PRELUDE, "leb")]),
+    "nat_le": ("comparison", [("nat_lt", PRELUDE, "nat_lt"), ("eqb", PRELUDE, "eqb")]),
+    "nat_lt": ("comparison", [("nat_le", PRELUDE, "nat_le")]),
+    "true": ("truth", [("false", PRELUDE, "false")]),
+    "false": ("truth", [("true", PRELUDE, "true")]),
+    "when": ("condition", [("unless", "Rattle.rules.specs.Row", "unless")]),
+    "unless": ("condition", [("when", "Rattle.rules.specs.Row", "when")]),
 }
-TESTS = {"eqb", "leb", "ltb"}
-KNOWN = {"leb": ["ℕ", "ℕ", "Bool"], "ltb": ["ℕ", "ℕ", "Bool"]}
+TESTS = {"eqb", "leb", "ltb", "nat_le", "nat_lt"}
+KNOWN = {test: ["ℕ", "ℕ", "Bool"] for test in ("leb", "ltb", "nat_le", "nat_lt")}
+# what ends an operand of `==`
+BOUNDS = {"&&", "||", ",", ";", "=", "(", ")", "{", "}", "∷", "."}
 NUMBERS = {"u8", "u16", "u32", "u64", "usize"}
 
 
@@ -46,6 +50,9 @@ class Right:
                     yield self.change(tok, tok.text, new, "constant")
             elif tok.kind == "field":
                 yield from self.fields(i)
+                yield from self.calls(i)
+            elif tok.text == "==":
+                yield from self.equals(i)
             else:
                 yield from self.signs(tok)
                 yield from self.calls(i)
@@ -71,9 +78,30 @@ class Right:
         found, at = [], i + 1
         while at < len(self.toks) and (self.toks[at].kind in ("word", "number") or self.toks[at].text in ("(", "[]")):
             end = group_end(self.toks, at) if self.toks[at].text == "(" else at + 1
+            while end < len(self.toks) and self.toks[end].kind == "field":
+                end += 1
             found.append(self.toks[at:end])
             at = end
         return found
+
+    def equals(self, i):
+        """`a == b` of numbers: at most, and not."""
+        first = last = i
+        while first > 0 and self.toks[first - 1].text not in BOUNDS - {")"}:
+            first = self.opening(first - 1) if self.toks[first - 1].text == ")" else first - 1
+        while last + 1 < len(self.toks) and self.toks[last + 1].text not in BOUNDS - {"("}:
+            last = group_end(self.toks, last + 1) - 1 if self.toks[last + 1].text == "(" else last + 1
+        if first == i or last == i:
+            return
+        left = text_between(self.lines, self.toks[first], self.toks[i - 1])
+        right = text_between(self.lines, self.toks[i + 1], self.toks[last])
+        old = text_between(self.lines, self.toks[first], self.toks[last])
+        needs = self.taken(PRELUDE, "nat_le")
+        if old and left and right and needs is not None:
+            yield self.change(self.toks[first], old, f"nat_le ({left}) ({right})", "comparison", needs)
+        needs = self.taken(PRELUDE, "not")
+        if old and needs is not None:
+            yield self.change(self.toks[first], old, f"not ({old})", "condition", needs)
 
     def calls(self, i):
         tok, atoms = self.toks[i], self.atoms(i)
@@ -83,7 +111,8 @@ class Right:
             yield from self.exchange(atoms[1], atoms[2], "condition")
         elif tok.text in TESTS and len(atoms) == 2:
             yield from self.negated(tok, atoms)
-        kinds = self.definitions.get(tok.text, [])
+        # a field's word is called where it is a definition of a module with a name of its own
+        kinds = self.definitions.get(tok.text.lstrip("."), [])
         if 2 <= len(atoms) == len(kinds) - 1:
             for a in range(len(atoms)):
                 for b in range(a + 1, len(atoms)):
@@ -96,41 +125,30 @@ class Right:
             yield self.change(left[0], *pair, kind)
 
     def negated(self, tok, atoms):
-        old, needs = text_between(self.lines, tok, atoms[-1][-1]), self.taken(BOOL, "not")
+        old, needs = text_between(self.lines, tok, atoms[-1][-1]), self.taken(PRELUDE, "not")
         if old and needs is not None:
             yield self.change(tok, old, f"not ({old})", "condition", needs)
 
     def fields(self, i):
-        """`x .a .b`: a field for the others of its record that have its type."""
+        """`x.a.b`: a field for the others of its record that have its type."""
         name, fields = self.toks[i].text[1:], dict(self.records.get(self.kind_before(i), []))
         for other, kind in fields.items():
             if other != name and plain(kind) == plain(fields.get(name, "")):
                 yield self.change(self.toks[i], "." + name, "." + other, "field")
 
     def kind_before(self, i):
-        """The type of what a field is taken of: a variable, a field of one, a call; else the one record that has it."""
+        """The type of what a field is taken of: a variable, a field of one, a call in brackets; else the one record that
+        has it."""
         before = self.toks[i - 1]
         if before.kind == "field":
             return dict(self.records.get(self.kind_before(i - 1), [])).get(before.text[1:])
-        head = self.head(i - 1)
-        if before.kind == "word" and head == i - 1 and before.text in self.types:
+        if before.kind == "word" and before.text in self.types:
             return self.types[before.text]
-        if head < i - 1 and self.toks[head].text in self.definitions:
-            return self.definitions[self.toks[head].text][-1]
+        head = self.toks[self.opening(i - 1) + 1].text if before.text == ")" else ""
+        if head in self.definitions:
+            return self.definitions[head][-1]
         having = [record for record, fields in self.records.items() if self.toks[i].text[1:] in dict(fields)]
         return having[0] if len(having) == 1 else None
-
-    def head(self, at):
-        """Where the call begins whose last argument ends at `at`."""
-        start = at
-        while at >= 0:
-            if self.toks[at].text in CLOSE:
-                at = self.opening(at)
-            elif self.toks[at].kind not in ("word", "number") or self.toks[at].text == "λ":
-                break
-            start = at
-            at -= 1
-        return start
 
     def opening(self, at):
         depth = 0

@@ -44,7 +44,7 @@ def arguments():
     parser.add_argument("--jobs", type=int, default=1, metavar="N", help="workers, each with its own copy (1)")
     parser.add_argument("--limit", type=int, default=600, metavar="S", help="seconds for a check (600)")
     parser.add_argument("--inputs", type=int, default=100000, metavar="N", help="inputs of a comparison (100000)")
-    parser.add_argument("--work", help="copies and log (target/mutants, with --theorems target/theorems)")
+    parser.add_argument("--work", help="log, and what was said (target/mutants, with --theorems target/theorems)")
     options = parser.parse_intermixed_args()
     options.top = THEOREMS if options.theorems else None
     options.seed = THEOREMS_SEED if options.theorems else SEED
@@ -121,10 +121,9 @@ class Run:
             show(result)
         return result
 
-    def work(self, number):
+    def work(self):
         try:
-            folder = os.path.join(self.options.work, f"worker{number}")
-            scratch = Scratch(REPO, folder, self.options.limit, self.options.top)
+            scratch = Scratch(REPO, self.options.limit, self.options.top)
             scratch.prepare(lambda words: print(f"as it is, {words}", flush=True))
             while True:
                 self.try_crate(scratch, *self.left.get_nowait())
@@ -146,7 +145,7 @@ def try_some(sources, options):
         raise SystemExit("mutants: no mutant has that text; see `mutants.py list --all`")
     folder = os.path.join(options.work, "tried")
     os.makedirs(folder, exist_ok=True)
-    scratch = Scratch(REPO, folder, options.limit, options.top)
+    scratch = Scratch(REPO, options.limit, options.top)
     scratch.prepare(lambda words: print(f"as it is, {words}", flush=True))
     for mutant in found:
         show(try_mutant(scratch, sources, mutant, os.path.join(folder, "said.txt"), options.inputs))
@@ -157,7 +156,7 @@ def run(sources, options):
     signal.signal(signal.SIGTERM, lambda *_: sys.exit("mutants: stopped; --resume takes it up again"))
     os.makedirs(options.work, exist_ok=True)
     whole = Run(sources, options)
-    workers = [threading.Thread(target=whole.work, args=(number,), daemon=True) for number in range(options.jobs)]
+    workers = [threading.Thread(target=whole.work, daemon=True) for _ in range(options.jobs)]
     for worker in workers:
         worker.start()
     for worker in workers:

@@ -111,8 +111,8 @@ def without_clauses(body):
     """A body without `ghost` statements and without the clauses of its loops."""
     kept, i = [], 0
     while i < len(body):
-        if body[i].text in CLAUSES and i + 1 < len(body) and body[i + 1].text == "{":
-            i = group_end(body, i + 1)
+        if body[i].text in CLAUSES and "{" in [tok.text for tok in body[i + 1 : i + 3]]:
+            i = group_end(body, i + 1)  # a clause may have a name
         elif body[i].text == "ghost":
             while i < len(body) and body[i].text != ";":
                 i = group_end(body, i) if body[i].text == "{" else i + 1
@@ -124,7 +124,9 @@ def without_clauses(body):
 
 # As `rt fmt` lays a file out: an item of several lines begins and ends at its left edge.
 CODE_ITEM = re.compile(
-    r"^(?:impl .*|(?:pub )?(?:extern \S+ )?fn .*)\n(?:.*\n)*?\}\n|^ghost use .*\n|^use .*::[a-z_]+;\n", re.MULTILINE
+    r"^(?:#\[(?:tactic|cycle|unsafe)\b.*\n)*(?:impl .*|(?:pub )?(?:extern \S+ )?fn .*)\n(?:.*\n)*?\}\n"
+    r"|^ghost use .*\n|^use .*::[a-z_]+;\n",
+    re.MULTILINE,
 )
 
 

@@ -22,15 +22,15 @@ COMPUTED = {
     "Cases.antt": "the cases",
 }
 # A crate below is not proved, so that this one wasn't checked.
-BELOW = "rt: FAILED:"
+BELOW = re.compile(r"^rt: the library \S+ did not build", re.MULTILINE)
 UNCOVERED = "the borrow checker does not cover"
-# What could not be shown, by the name of the need that a proof answers.
+# What could not be shown, by the name of the goal that a proof answers.
 NEEDS = [
-    ("what it ensures", re.compile(r"(returns(-\d+)?|.*-spec)$")),
-    ("its loop's invariant", re.compile(r"loop\d*-(holds|again)(-\d+)?$")),
-    ("that it ends", re.compile(r"loop\d*-less(-\d+)?$")),
-    ("what a callee requires", re.compile(r".*-requires(-\d+)?$")),
-    ("safety", re.compile(r"(array|slice|shared|element|index|part|same|cast|add|sub|mul|div|rem|neg|shl|shr)-")),
+    ("what it ensures", re.compile(r"(returns(-.+)?|.*_spec)$")),
+    ("its loop's invariant", re.compile(r".*-(init|preserved)(-.+)?$")),
+    ("that it ends", re.compile(r".*-smaller(-.+)?$")),
+    ("what a callee requires", re.compile(r".*-requires(-.+)?$")),
+    ("safety", re.compile(r"(overflow_\w+|nonzero_\w+|(slice_|offset_)?bounds)-")),
 ]
 
 
@@ -49,18 +49,19 @@ class Said:
         return f"{file}:{line}: {words}"
 
 
-def heard(status, text, root):
-    """Reads what `rt dev` printed, and how it ended. Text that is refused as text, before any proof, is uncompiled."""
+def heard(status, text, folder):
+    """Reads what `rt check` printed in a crate's folder, and how it ended. Text that is refused as text, before any
+    proof, is uncompiled."""
     # Crates below may stand before; the last is its own.
     ends = re.findall(r"^logic=(proved|not-proved)", text, re.MULTILINE)
     if status == 0 and ends[-1:] == ["proved"]:
         return Said("proved")
-    if status == 0 or BELOW in text:
+    if status == 0 or BELOW.search(text):
         return Said("unclear")
     errors = []
     for match in [*ERROR.finditer(text), *LEFT.finditer(text)]:
         if FOLLOWS not in match["words"]:
-            errors.append((match["file"].removeprefix(root + "/"), int(match["line"]), match["words"]))
+            errors.append((f"{folder}/{match['file'].removeprefix('./')}", int(match["line"]), match["words"]))
     functions = [match[1] for match in UNPROVED.finditer(text) if not match["calls"]]
     if any("/specs/" in file for file, _, _ in errors):
         return Said("uncompiled", errors)

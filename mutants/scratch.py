@@ -7,11 +7,10 @@ import re
 import shutil
 import signal
 import subprocess
+import tempfile
 
 from rattle import without_code
 from said import Said, heard
-
-KEPT = ("rlib", "stamp", "inc", "log")
 
 
 def crates_in_order(root):
@@ -19,9 +18,10 @@ def crates_in_order(root):
     found = {}
     with open(os.path.join(root, "crates.txt"), encoding="utf-8") as file:
         for line in file:
+            # a static library has that word after its name
             name, colon, deps = line.split("#")[0].partition(":")
             if colon:
-                found[name.strip()] = deps.split()
+                found[name.split()[0]] = deps.split()
     return found
 
 
@@ -35,35 +35,37 @@ def standing_on(crate, deps):
 
 
 class Scratch:
-    def __init__(self, repo, folder, limit, top=None):
-        """`top`: the copy has this crate and those below it, without their code, so that theorems alone can refuse."""
+    def __init__(self, repo, limit, top=None):
+        """`top`: the copy has this crate and those below it, without their code, so that theorems alone can refuse.
+        It lies outside the repository, in which `rt ci` wants no other crates than its own."""
         self.repo, self.limit, self.top = repo, limit, top
+        folder = tempfile.mkdtemp(prefix="mutants-")
         self.root, self.pristine = os.path.join(folder, "tree"), os.path.join(folder, "pristine")
         self.deps = crates_in_order(repo)
         if top:
             self.deps = {name: self.deps[name] for name in self.deps if name in [*self.deps[top], top]}
         self.above, self.touched, self.lean = [], set(), ""
         self.process = None
+        atexit.register(shutil.rmtree, folder, ignore_errors=True)
         atexit.register(self.stop)
 
     def prepare(self, say):
         """Copies the repository with what is proved of it, and sees that each crate is proved before any change."""
-        shutil.rmtree(self.root, ignore_errors=True)
-        shutil.rmtree(self.pristine, ignore_errors=True)
         left_out = {"target", ".git", "__pycache__"}
         shutil.copytree(self.repo, self.root, ignore=lambda folder, names: left_out & set(names))
         if self.top:
             self.take_code_away()
-        for part in KEPT:
-            source = os.path.join(self.repo, "target", part)
-            if os.path.isdir(source):
-                shutil.copytree(source, os.path.join(self.root, "target", part))
         for crate in self.deps:
-            verdict = self.dev(crate, os.devnull).verdict
+            verdict = self.check(crate, os.devnull).verdict
             say(f"{crate}: {verdict}")
             if verdict != "proved":
                 raise SystemExit(f"mutants: {crate} is not proved as it is, so that nothing can be said of its mutants")
-        shutil.copytree(os.path.join(self.root, "target"), self.pristine)
+        for crate in self.deps:
+            put_back(self.out(crate), os.path.join(self.pristine, crate))
+
+    def out(self, crate):
+        """Where `rt` keeps what it proved of a crate."""
+        return os.path.join(self.root, "crates", crate, "out")
 
     def take_code_away(self):
         """Only the crates that count, their structs, and the proofs that belong to no function."""
@@ -79,8 +81,11 @@ class Scratch:
                     text = file.read()
                 with open(path, "w", encoding="utf-8") as file:
                     file.write(without_code(text))
-            for path in glob.glob(os.path.join(folder, "proofs", "**", "Proof.antt"), recursive=True):
-                os.remove(path)
+            for name in ("Proof.antt", "Answers.antt", "Invariants.antt"):
+                for path in glob.glob(os.path.join(folder, "proofs", "**", name), recursive=True):
+                    os.remove(path)
+            shutil.rmtree(os.path.join(folder, "out"), ignore_errors=True)
+            shutil.rmtree(os.path.join(folder, "must-fail"), ignore_errors=True)
 
     def with_change(self, mutant, text):
         self.above, self.touched, self.lean = standing_on(mutant.crate, self.deps), set(), ""
@@ -94,13 +99,12 @@ class Scratch:
             proofs = os.path.join("crates", self.lean, "proofs")
             put_back(os.path.join(self.repo, proofs), os.path.join(self.root, proofs))
         for crate in self.touched:
-            for name in (f"rlib/{crate}.rlib", f"stamp/{crate}", f"inc/{crate}"):
-                put_back(os.path.join(self.pristine, name), os.path.join(self.root, "target", name))
+            put_back(os.path.join(self.pristine, crate), self.out(crate))
 
-    def dev(self, crate, log):
+    def check(self, crate, log):
         self.touched |= {name for name in self.above if name == crate or name in self.deps[crate]}
-        status, text = self.run(["rt", "dev", crate], log)
-        return Said("unclear") if status is None else heard(status, text, self.root)
+        status, text = self.run(["rt", "check"], log, crate)
+        return Said("unclear") if status is None else heard(status, text, f"crates/{crate}")
 
     def leave_out_theorems(self, crate, refused):
         """Takes away the theorems of a crate that no crate above cites, so that those can be asked;
@@ -125,11 +129,13 @@ class Scratch:
         self.touched = set(self.above)
         return self.run(["make", "compare", f"N={inputs}"], log)[0]
 
-    def run(self, command, log):
-        """The command's status and what it printed; no status where it took too long."""
+    def run(self, command, log, crate=""):
+        """The command's status and what it printed, in a crate's folder or at the top; no status where it took too
+        long."""
+        folder = os.path.join(self.root, "crates", crate) if crate else self.root
         self.process = subprocess.Popen(
-            command, cwd=self.root, stdout=subprocess.PIPE, stderr=subprocess.STDOUT, text=True, errors="replace",
-            start_new_session=True, env={**os.environ, "RT_CUT": "0", "RT_JOBS": "1"},
+            command, cwd=folder, stdout=subprocess.PIPE, stderr=subprocess.STDOUT, text=True, errors="replace",
+            start_new_session=True, env={**os.environ, "RT_JOBS": "1"},
         )
         try:
             text, _ = self.process.communicate(timeout=self.limit)
@@ -159,13 +165,13 @@ def cited_theorems(root, crate, above):
         if other != crate:
             for path in glob.glob(os.path.join(root, "crates", other, "**", "*"), recursive=True):
                 if path.endswith((".antt", ".rt")):
-                    left |= set(re.findall(rf"Rattle·{crate}\.proofs\.(\w+)", "\n".join(lines_of(path))))
+                    left |= set(re.findall(rf"Rattle\.{crate}\.proofs\.(\w+)", "\n".join(lines_of(path))))
     while left:
         name = left.pop()
         path = os.path.join(root, "crates", crate, "proofs", name + ".antt")
         if name not in found and os.path.exists(path):
             found.add(name)
-            left |= set(re.findall(rf"Rattle·{crate}·proofs\.proofs\.(\w+)", "\n".join(lines_of(path))))
+            left |= set(re.findall(rf"Rattle\.{crate}\.proofs\.(\w+)", "\n".join(lines_of(path))))
     return found
 
 

@@ -6,7 +6,7 @@ from dataclasses import dataclass
 
 @dataclass(frozen=True)
 class Token:
-    kind: str  # word, number, field (antt: a projection, as `.port`), sign
+    kind: str  # word, number, field (antt: a projection, as `.port` of `x.port`), sign
     text: str
     line: int
     column: int
@@ -27,9 +27,9 @@ RATTLE = re.compile(
 ANTT = re.compile(
     r"""(?P<skip>\s+|--[^\n]*)
     |(?P<number>0x[0-9A-Fa-f]+|0o[0-7]+|\d+)
-    |(?P<field>(?<=\s)\.[^\W\d]\w*)
+    |(?P<field>(?<=[\w)'])\.[^\W\d]\w*)
     |(?P<word>[^\W\d](?:[\w'·]|-(?=\w))*)
-    |(?P<sign>&&|\|\||\+\+|\[\]|.)""",
+    |(?P<sign>&&|\|\||\+\+|==|\[\]|.)""",
     re.VERBOSE,
 )
 

@@ -31,7 +31,7 @@ def try_mutant(scratch, sources, mutant, log, inputs):
 
 
 def check_code(scratch, mutant, log, inputs):
-    said = scratch.dev(mutant.crate, log)
+    said = scratch.check(mutant.crate, log)
     if said.verdict != "proved":
         noticed = ["the prover"] if said.verdict == "refused" else []
         return {**outcome(said, mutant.crate, noticed), "need": said.need}
@@ -44,7 +44,7 @@ def check_code(scratch, mutant, log, inputs):
 def check_definition(scratch, mutant, log, with_code):
     """The definition's own crate first, then those above it, up to the first that refuses."""
     for crate in scratch.above:
-        said = scratch.dev(crate, log)
+        said = scratch.check(crate, log)
         if said.verdict == "refused":
             noticed = noticed_by(crate, said, with_code)
             return outcome(said, crate, noticed + ask_the_code(scratch, crate, said, noticed, log, with_code))
@@ -61,7 +61,7 @@ def ask_the_code(scratch, crate, said, noticed, log, with_code):
     if noticed != ["the promises"] or not scratch.leave_out_theorems(crate, refused):
         return []
     for other in scratch.above[1:]:
-        verdict = scratch.dev(other, log).verdict
+        verdict = scratch.check(other, log).verdict
         if verdict != "proved":
             return ["the code's proofs"] if verdict == "refused" and other in with_code else []
     return []

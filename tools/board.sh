@@ -7,7 +7,7 @@ set -eu
 root=$(cd "$(dirname "$0")/.." && pwd)
 . "$root/board/targets.sh"
 board "$2"
-bin=$(dirname "$(dirname "$(readlink -f "$(command -v rt)")")")/on/$(uname -m)/toolchain/bin
+bin=$(dirname "$(dirname "$(readlink -f "$(command -v rt)")")")/toolchain/bin
 mkdir -p "$3"
 # As text, before any pass; it mustn't depend on the size of a pointer.
 "$bin/clang" --target=x86_64-unknown-linux-gnu -S -emit-llvm -Xclang -disable-llvm-passes -x ir "$1" -o "$3/module.ll"
@@ -16,10 +16,11 @@ awk -f "$root/tools/board.awk" "$3/module.ll" >&2 || { echo "board.sh: the modul
 # shellcheck disable=SC2086
 "$bin/clang" $for_module -S -emit-llvm -x c /dev/null -o - | grep '^target ' >"$3/board.ll"
 [ "$(wc -l <"$3/board.ll")" -eq 2 ] || { echo "board.sh: no triple and layout of $2" >&2; exit 1; }
-sed -e '/^target /d' -e '/^attributes /s/ "target-cpu"="x86-64"//' -e '/^attributes /s/ "probe-stack"="inline-asm"//' \
+sed -e '/^target /d' -e '/^attributes /s/ "target-cpu"="x86-64"//' -e '/^attributes /s/ "probe-stack"="inline-asm" "stack-probe-size"="[0-9]*"//' \
     "$3/module.ll" >>"$3/board.ll"
 # shellcheck disable=SC2086
 "$bin/clang" $for_module --no-default-config -Werror -O2 -ffunction-sections -fdata-sections \
-    -mllvm -trap-unreachable -mllvm -no-trap-after-noreturn -c -x ir "$3/board.ll" -o "$3/hawsermole.o"
+    -mllvm -trap-unreachable -mllvm -no-trap-after-noreturn -mllvm -disable-machine-licm \
+    -mllvm -disable-postra-machine-licm -mllvm -sink-common-insts=false -c -x ir "$3/board.ll" -o "$3/hawsermole.o"
 rm -f "$3/libhawsermole.a"
 "$bin/llvm-ar" rcs "$3/libhawsermole.a" "$3/hawsermole.o"

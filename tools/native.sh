@@ -8,7 +8,7 @@ mkdir -p "$2"
 machine=$(uname -m)
 kit=$(dirname "$(dirname "$(readlink -f "$(command -v rt)")")")
 # The module's processor is x86-64; clang says that it takes another.
-"$kit/on/$machine/toolchain/bin/clang" --target="$machine-linux-gnu" -O3 -fPIC -c -x ir "$1" \
+"$kit/toolchain/bin/clang" --target="$machine-linux-gnu" -O3 -fPIC -c -x ir "$1" \
     -o "$2/hawsermole.o" 2>"$2/native.log" || { cat "$2/native.log" >&2; exit 1; }
 rm -f "$2/libhawsermole.a"
 ar rcs "$2/libhawsermole.a" "$2/hawsermole.o"

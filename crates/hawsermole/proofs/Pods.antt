@@ -12,7 +12,7 @@ use Rattle.hands.specs.Promise.{events}
 use Rattle.counted.specs.Count.{entries, came_in}
 use Rattle.counted.proofs.Counted.{counted}
 use Rattle.tool.proofs.Runs.{valid}
-use Rattle.hawsermole.specs.Calls.{Call, Left, state_in, happened, logged, PodsCounted}
+use Rattle.hawsermole.specs.Calls.{Call, Left, state_in, logged, PodsCounted}
 use Rattle.hawsermole.proofs.Kept.{inputs, set_up_fact, state_is, events_are}
 
 abbrev seen : Event → Entry

@@ -1,6 +1,7 @@
 // The library's functions for C: a tool (3,782 bytes, in two blocks) and a report list are bytes that the caller lends, and
 // include/hawsermole.h names them.
 #![tactic(auto)]
+
 ghost use Rattle.std.specs.Prelude.{◌≡◌, cond, []};
 ghost use Rattle.rules.specs.Seen.{input_of};
 ghost use Rattle.items.specs.Reading.{read_message};
