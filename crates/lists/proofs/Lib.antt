@@ -4,3 +4,4 @@ pub mod Parts
 pub mod Tables
 pub mod Tests
 pub mod Positions
+pub mod Library

@@ -3,3 +3,4 @@ pub mod Maps
 pub mod Fields
 pub mod Ports
 pub mod Carriers
+pub mod Refusals

@@ -7,5 +7,6 @@ pub mod fill;
 pub mod map;
 pub mod name;
 pub mod port;
+pub mod refusal;
 pub mod sizes;
 pub mod words;

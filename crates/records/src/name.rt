@@ -6,7 +6,7 @@ use crate::fill::fill;
 use crate::sizes::*;
 
 #[repr(C)]
-#[derive(Clone, Copy)]
+#[derive(Clone, Copy, PartialEq, Eq)]
 pub struct Name {
     pub bytes: [u8; NAME_BYTES],
 }
@@ -20,16 +20,11 @@ impl Name {
         }
     }
 
+    #[tactic(auto, using(crate::proofs::Names::equal_names))]
     pub fn same(self, other: Name) -> bool
         ensures { result ≡ same_name self other }
     {
-        let mut same = true;
-        let mut i = NAME_BYTES;
-        while 0 < i {
-            i -= 1;
-            same = (self.bytes[i] == other.bytes[i]) & same;
-        }
-        same
+        self == other
     }
 }
 

@@ -6,6 +6,7 @@ use Rattle.records.specs.declared.carrier.Carrier.{Carrier}
 use Rattle.records.specs.Names.{is_name, in_bytes, same_name}
 use Rattle.records.specs.Maps.{is_map, in_map}
 use Rattle.records.specs.Carriers.{expected, in_buffer, is_open}
+use Rattle.rules.specs.declared.input.Input as sent
 use Rattle.rules.specs.declared.row.Seen.{Seen}
 use Rattle.rules.specs.State.{State, port_of, record_of}
 
@@ -19,6 +20,10 @@ pub record Input : Type 0 where
 
 abbrev pub input_of : ℕ → ℕ → ℕ → List ℕ → List ℕ → Input
 input_of number port value name codes = record { number = number; port = port; value = value; name = name; codes = codes }
+
+-- what the code was sent
+abbrev pub input_in : sent.Input → Input
+input_in i = input_of i.number i.port i.value i.name.now i.codes.now
 
 -- No port, place or value is as large as 255, so that 255 stands for all that is larger.
 unfoldable pub narrow : ℕ → ℕ
