@@ -16,6 +16,7 @@ function holds(p, kind) {
 / (ptrtoint|inttoptr|bitcast|addrspacecast|asm|volatile|atomic) / { bad("a pointer as a number, or unknown") }
 /^  (%[^ ]+ = )?(load|store|alloca) / && !/, align [0-9]/ { bad("no alignment") }
 /@llvm\.mem/ && !/, i64 [0-9]+, i1 false\)$/ { bad("no constant length") }
+/(load|store) \{ [^}]*, ptr[ ,]/ && !/ = load \{ i8, ptr \}, ptr %[^ ,]+, align [0-9]+$/ { bad("a pointer inside, not where pairs.awk has it") }
 / = alloca ptr, align / { whole[$1] = 1; pointers++; next }
 { words = split($0, word, /[ ,()]+/) }
 word[2] == "store" { holds(word[6], word[3] == "ptr" ? 1 : 2); next }

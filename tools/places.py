@@ -10,6 +10,8 @@ ROOT = next((a for a in sys.argv[1:] if not a.startswith("-")), ".")
 
 CHOICES = ("wide", "one_if", "first", "either", "either_port", "either_carrier", "index", "broad", "roomy")
 COMPARISONS = ("same", "same_codes", "all")
+WORDS = ("if", "else", "while", "for", "in", "let", "mut", "match", "return", "true", "false", "as", "self")
+LEAST = 14  # words and signs of a body that counts as a twin's
 
 
 def files(where, ending):
@@ -29,18 +31,35 @@ def plain(path):
     return re.sub(r"//[^\n]*", "", read(path))
 
 
-def head(text, begin):
-    """A function's signature and clauses, up to the brace that opens its body."""
+def opens(text, begin):
+    """Where the brace stands that opens a function's body, after its signature and clauses."""
     depth = 0
     for i in range(begin, len(text)):
         if text[i] == "{":
             clause = re.search(r"\b(requires|ensures)\b[^\n{]*$", text[begin:i])
             if depth == 0 and not clause:
-                return " ".join(text[begin:i].split())
+                return i
             depth += 1
         elif text[i] == "}":
             depth -= 1
-    return " ".join(text[begin:].split())
+    return len(text)
+
+
+def head(text, begin):
+    return " ".join(text[begin : opens(text, begin)].split())
+
+
+def shape(text, begin):
+    """A function's body, with I for each name and N for each number."""
+    i = j = opens(text, begin)
+    depth = 0
+    while j < len(text):
+        depth += (text[j] == "{") - (text[j] == "}")
+        j += 1
+        if depth == 0:
+            break
+    words = re.findall(r"[A-Za-z_]\w*|\d\w*|\"[^\"]*\"|[^\s\w]", text[i:j])
+    return " ".join(w if w in WORDS or not re.match(r"[\w\"]", w) else "N" if w[0].isdigit() else "I" for w in words)
 
 
 def functions():
@@ -85,7 +104,14 @@ def chooses(n, a, r, c):
     return re.search(r"ensures (\w+ )?\{ result ≡ cond \w+ \w+ \w+ \}", c) and a.startswith("b: bool")
 
 
-names = collections.Counter(n for p, n, a, r, c in every)
+shapes = collections.defaultdict(list)
+for path in files("src", ".rt"):
+    text = plain(path)
+    for match in re.finditer(r"\bfn (\w+)", text):
+        body = shape(text, match.start())
+        if len(body.split()) >= LEAST:
+            shapes[body].append(f"{named(path)} {match.group(1)}")
+twins = [f"{place}, of {len(group)}" for group in shapes.values() if len(group) > 1 for place in group]
 facts = collections.Counter(
     f for p, n, a, r, c in every for f in re.findall(r"requires (?:\w+ )?\{ (.*?) \}", c)
 )
@@ -102,7 +128,7 @@ say("1c", "fields that number a refusal, or flag whether the fields beside them 
 say("1d", "constants that number kinds", lines(r"^pub const \w+: usize = 0o"))
 say("1e", "refusals as literals",
     lines(r"\bfirst\(.*, ([1-9]|2\d), |unmoved\(.*, ([1-9]|1\d)\)|^\s*(1|return 1;)$|refused\(2\d,"))
-say("2a", "functions whose name another module has too", those(lambda n, a, r, c: names[n] > 1))
+say("2a", "functions whose body is another's but for names and numbers", twins)
 say("2b", "functions that choose one of two values, one for each type", those(chooses))
 say("3", "loops that count an index by hand", lines(r"\bwhile "))
 say("4a", "functions that convert, choose or compare by hand", those(lambda n, a, r, c: n in CHOICES + COMPARISONS))

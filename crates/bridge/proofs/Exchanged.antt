@@ -57,6 +57,11 @@ module _ (t : Whole) (message room : List ℕ) where
     unfolding exchanged answer_in
     it_fits e = rw (fitted (too_small room text) (sym w.answered ∙ e))
 
+    -- the one refusal of a reply
+    pub fourteen : fits ≢ 0 → fits ≡ 14
+    unfolding answer_in
+    fourteen n = w.answered ∙ rw (not_fitted (too_small room text) (λ e. n (w.answered ∙ e)))
+
     pub too_long : 7 ≤ length room → fits ≢ 0
         → ((bridged t message).tool ≡ t) × ((bridged t message).reports ≡ no_reports) × (refused t 14 ≡ exchanged t message room)
     unfolding exchanged answer_in

@@ -1,5 +1,6 @@
 // The text of S3F17 to the whole tool, and the text of S3F18 into room that the caller lends.
 ghost use Rattle.std.specs.Prelude.{◌≡◌};
+ghost use Rattle.records.specs.Refusals.{answer};
 ghost use Rattle.image.specs.Image.{reports_from};
 ghost use Rattle.replies.specs.Reply.{room_after, written_in};
 ghost use Rattle.tool.specs.Whole.{whole_in};
@@ -10,6 +11,7 @@ use crate::bridge::bridge_step;
 use follow::blocks::BLOCKS;
 use image::layout::*;
 use image::report::no_reports;
+use records::refusal::{Refusal, answer};
 use replies::reply::reply;
 use replies::writer::*;
 use secs::request::request_in;
@@ -23,23 +25,30 @@ pub fn exchange(
     items: &mut u32,
     room: &mut [u8],
     told: &mut u32,
-) -> u8
+) -> Result<(), Refusal>
     ensures m_after { whole_in m.new ≡ (exchanged (whole_in m.old) message.now room.old).tool }
     ensures o_after { reports_from o.new
         ≡ (exchanged (whole_in m.old) message.now room.old).reports }
-    ensures value { result ≡ (exchanged (whole_in m.old) message.now room.old).answer }
+    ensures value { answer result ≡ (exchanged (whole_in m.old) message.now room.old).answer }
     ensures after { items.new ≡ items_in message.now }
     ensures room_after { room.new ≡ room_after room.old (replied (whole_in m.old) message.now) }
     ensures told_after { told.new ≡ written_in room.old (replied (whole_in m.old) message.now) }
 {
     if room.len() < ACCEPTED_BYTES {
-        let q = request_in(message);
-        *items = q.count as u32;
+        *items = request_in(message).count as u32;
         *told = 0;
         no_reports(o);
-        return ROOM_TOO_SMALL;
+        return Err(Refusal::RoomTooSmall);
     }
-    let answer = bridge_step(m, o, message, items);
-    let fits = reply(answer as u32, room, told);
-    if fits == 0 { answer } else { ROOM_TOO_SMALL }
+    let said = bridge_step(m, o, message, items);
+    match reply(u32::from(answer(said)), room) {
+        Ok(many) => {
+            *told = many;
+            said
+        }
+        Err(refusal) => {
+            *told = 0;
+            Err(refusal)
+        }
+    }
 }

@@ -1,15 +1,21 @@
 -- Bytes that close up over an entry that goes.
-use Prim.Native.Nat.{ℕ, ◌+◌, ◌<◌, ◌≤◌}
+use Prim.Native.Nat.{ℕ, ◌+◌, ◌-◌, ◌<◌, ◌≤◌}
 use native.Mathlib.Omega.{arith}
-use mathlib.Core.Path.{◌≡◌, refl, sym, ◌∙◌}
+use mathlib.Core.Path.{◌≡◌, refl, ap, sym, ◌∙◌}
 use mathlib.Core.Logic.{◌≢◌}
 use mathlib.Core.Bool.{Bool, true, false, cond}
 use mathlib.Core.List.{List}
-use lib.ListN.{length, set}
+use lib.ListN.{length, set, take, drop, replicate, length-replicate, get_or-replicate}
+use lib.Seq.{sets, sets-eq, length-sets}
+use borrow.Rule.Slice.PartMut.{put_mid}
+use Rattle.std.proofs.lemmas.Slice.{put_mid-paste}
+use Rattle.std.proofs.lemmas.List.{append_assoc}
+use Rattle.std.proofs.lemmas.List.Edits.{paste_all}
 use lib.Dec.{ltb}
 use borrow.Author.Tests.{lt-ltb, le-ltb, ltb-true, ltb-false}
 use Rattle.image.specs.Image.{table, byte_at}
-use Rattle.image.proofs.Table.{length_table, table_same, table_set, is_table, getD_table}
+use Rattle.image.proofs.Table.{length_table, table_same, table_set, is_table, is_filled, getD_table}
+use Rattle.image.proofs.Written.{before_stays, after_stays, stands_there}
 use Rattle.follow.specs.Follow.{byte_before, closed_up}
 
 either : {A : Type 0} (b : Bool) (x : A) → cond b x x ≡ x
@@ -71,6 +77,14 @@ module _ (m : List ℕ) (o w e : ℕ) where
           inside false h l = let a = ltb-false i o h in moves (j + 1) i a (omega arith) ∙ sym (moves j i a l)
       same i d false h = let l = ltb-false i j h in late_stays (j + 1) i (omega arith) ∙ sym (late_stays j i l)
 
+-- a part that is written over
+part_written : (m : List ℕ) (o k : ℕ) (vs : List ℕ) → k ≡ length vs → o + length vs ≤ length m → put_mid o k m vs ≡ sets m o vs
+part_written m o k vs e h =
+    put_mid-paste o k m vs vs (length vs) refl (sym e) refl
+    ∙ paste_all m o vs (length vs) refl
+    ∙ sym (append_assoc (take o m) vs (drop (o + length vs) m))
+    ∙ sym (sets-eq vs m o h)
+
 -- what is moved as far as bytes follow, and zero from there on, has closed up
 module _ (m : List ℕ) (o w e r : ℕ) (lo : o ≤ r) (hi : r ≤ e) (far : e ≤ r + w) where
   abbrev part : List ℕ
@@ -79,26 +93,41 @@ module _ (m : List ℕ) (o w e r : ℕ) (lo : o ≤ r) (hi : r ≤ e) (far : e �
   part_at : (i : ℕ) → i < length m → byte_at part i ≡ closed_up m o w e r i
   part_at i b = getD_table (length m) (closed_up m o w e r) i 0 b
 
-  whole_at : (i : ℕ) → i < length m → closed_up part r e e e i ≡ closed_up m o w e e i
-  whole_at i b = go (ltb i r) refl (ltb i e) refl (ltb i o) refl
+  -- where the bytes from there on are zero, and the others are as they were moved
+  closed_as : (n : List ℕ) → length n ≡ length m → ((i : ℕ) → i < r → byte_at n i ≡ byte_at part i)
+      → ((i : ℕ) → r ≤ i → i < e → byte_at n i ≡ 0) → ((i : ℕ) → e ≤ i → byte_at n i ≡ byte_at part i)
+      → n ≡ table (length m) (closed_up m o w e e)
+  closed_as n l before zeros after = is_filled n (length m) (closed_up m o w e e) 0 l (λ i b. go i b (ltb i r) refl (ltb i e) refl)
     where
-      go : (x : Bool) → ltb i r ≡ x → (y : Bool) → ltb i e ≡ y → (z : Bool) → ltb i o ≡ z → closed_up part r e e e i ≡ closed_up m o w e e i
-      go true p y q true s =
-          let l = ltb-true i o s in
-          early_stays part r e e e i (ltb-true i r p) ∙ part_at i b ∙ early_stays m o w e r i l ∙ sym (early_stays m o w e e i l)
-      go true p y q false s =
-          let l = ltb-false i o s in
+      go : (i : ℕ) → i < length m → (x : Bool) → ltb i r ≡ x → (y : Bool) → ltb i e ≡ y → byte_at n i ≡ closed_up m o w e e i
+      go i b true p y q =
           let k = ltb-true i r p in
-          early_stays part r e e e i k ∙ part_at i b ∙ moves m o w e r i l k ∙ sym (moves m o w e e i l (omega arith))
-      go false p true q z s =
+          before i k ∙ part_at i b ∙ moved_both i k
+        where
+          moved_both : (i : ℕ) → i < r → closed_up m o w e r i ≡ closed_up m o w e e i
+          moved_both i k = inside (ltb i o) refl
+            where
+              inside : (z : Bool) → ltb i o ≡ z → closed_up m o w e r i ≡ closed_up m o w e e i
+              inside true s = let l = ltb-true i o s in early_stays m o w e r i l ∙ sym (early_stays m o w e e i l)
+              inside false s = let l = ltb-false i o s in moves m o w e r i l k ∙ sym (moves m o w e e i l (omega arith))
+      go i b false p true q =
           let k = ltb-false i r p in
           let l = ltb-true i e q in
-          moves part r e e e i k l ∙ before_out part e (i + e) (omega arith)
-          ∙ sym (moves m o w e e i (omega arith) l ∙ before_out m e (i + w) (omega arith))
-      go false p false q z s =
+          zeros i k l ∙ sym (moves m o w e e i (omega arith) l ∙ before_out m e (i + w) (omega arith))
+      go i b false p false q =
           let k = ltb-false i r p in
           let l = ltb-false i e q in
-          late_stays part r e e e i l ∙ part_at i b ∙ late_stays m o w e r i k ∙ sym (late_stays m o w e e i l)
+          after i l ∙ part_at i b ∙ late_stays m o w e r i k ∙ sym (late_stays m o w e e i l)
 
-  pub closed_whole : table (length part) (closed_up part r e e e) ≡ table (length m) (closed_up m o w e e)
-  closed_whole = rw (length_table (length m) (closed_up m o w e r)) (table_same (length m) _ _ whole_at)
+  pub closed_whole : (vs : List ℕ) → e ≤ length m → vs ≡ replicate (e - r) 0
+      → put_mid r (e - r) part vs ≡ table (length m) (closed_up m o w e e)
+  closed_whole vs b z =
+      let l = length_table (length m) (closed_up m o w e r) in
+      let k = ap length z ∙ length-replicate {A = ℕ} (e - r) 0 in
+      let s = length-sets part r vs in
+      part_written part r (e - r) vs (sym k) (omega arith)
+      ∙ closed_as (sets part r vs) (omega arith) (λ i c. before_stays part r vs i c)
+      (λ i c d. let q : r + (i - r) ≡ i = omega arith in
+      rw q at (stands_there part r vs (i - r) (omega arith) (omega arith))
+      ∙ ap (λ t. byte_at t (i - r)) z ∙ get_or-replicate {A = ℕ} (e - r) (i - r) 0 0 (omega arith))
+      (λ i c. after_stays part r vs i (omega arith))

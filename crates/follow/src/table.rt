@@ -7,40 +7,8 @@ use image::layout::TOOL_BYTES;
 use image::write::put;
 use records::sizes::RECORDS;
 
-// The bytes from o up to e become zero, as where nothing follows them.
-fn clear_up_to(m: &mut [u8], o: usize, e: usize)
-    requires o_le_e { o ≤ e }
-    requires e_in_bounds { e ≤ length m.old }
-    requires m_len_bound { length m.old ≤ 1891 }
-    ensures { m.new ≡ table (length m.old) (closed_up m.old o e e e) }
-{
-    let mut j = o;
-    while j < e {
-        m[j] = 0;
-        j += 1;
-    }
-}
-
-// The bytes from o + w up to e move up by w, over an entry that goes; those that none follows are left for zeros, from the
-// position that is given back.
-fn moved_up(m: &mut [u8], o: usize, w: usize, e: usize) -> usize
-    requires o_le_e { o ≤ e }
-    requires w_bound { w ≤ 1891 }
-    requires e_in_bounds { e ≤ length m.old }
-    requires m_len_bound { length m.old ≤ 1891 }
-    ensures lower_bound { (o ≤ result) × (result ≤ e) × (e ≤ result + w) }
-    ensures m_after { m.new ≡ table (length m.old) (closed_up m.old o w e result) }
-{
-    let mut j = o;
-    while j + w < e {
-        let b = m[j + w];
-        m[j] = b;
-        j += 1;
-    }
-    j
-}
-
-// An entry goes: what is after it closes up, and the last w bytes before e are zero.
+// An entry goes: what is after it closes up, and the last w bytes before e are zero. Bytes that are only moved go one by one,
+// as in image::write.
 pub fn close_up(m: &mut [u8], o: usize, w: usize, e: usize)
     requires o_le_e { o ≤ e }
     requires w_bound { w ≤ 1891 }
@@ -48,10 +16,14 @@ pub fn close_up(m: &mut [u8], o: usize, w: usize, e: usize)
     requires m_len_bound { length m.old ≤ 1891 }
     ensures { m.new ≡ table (length m.old) (closed_up m.old o w e e) }
 {
-    let j = moved_up(m, o, w, e);
-    clear_up_to(m, j, e);
+    let end = if o + w < e { e - w } else { o };
+    for j in o..end {
+        m[j] = m[j + w];
+    }
+    m[end..e].fill(0);
 }
 
+#[tactic(auto, unfolding(crate::specs::Follow::left_of))]
 fn left_of(n: usize, g: usize) -> usize
     ensures { result ≡ left_of n g }
 {
@@ -77,14 +49,12 @@ fn entry_added(m: &mut [u8; TOOL_BYTES], o: usize, w: usize, k: usize, made: boo
     ensures w_after { entries_from m.new o w ≡ added k made x.now (entries_from m.old o w) }
     ensures kept_outside { KeptOutside o (o + w * 36) m.old m.new }
 {
-    if made {
-        if k < RECORDS {
-            put(m, o + w * k, x);
-        }
+    if made && k < RECORDS {
+        put(m, o + w * k, x);
     }
 }
 
-// Of n records the one at goes is gone (n: none), and if one is made its entry is x.
+// Of n records the one at goes is gone (n: none), and if one is made its entry is x: a position and a flag, as in `followed_in`.
 pub fn follow(
     m: &mut [u8; TOOL_BYTES],
     o: usize,

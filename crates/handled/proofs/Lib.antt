@@ -5,3 +5,5 @@ pub mod Held
 pub mod Below
 pub mod Rows
 pub mod Tested
+pub mod Found
+pub mod Refused

@@ -2,6 +2,7 @@
 #![tactic(auto)]
 
 pub mod alarm;
+pub mod here;
 pub mod layout;
 pub mod loads;
 pub mod passed;
@@ -9,3 +10,4 @@ pub mod settle;
 pub mod sound;
 pub mod starts;
 pub mod step;
+pub mod words;

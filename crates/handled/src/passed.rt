@@ -1,12 +1,12 @@
 // An input that goes on below, and then the alarms; and one that is refused here.
 ghost use Rattle.std.specs.Prelude.{◌≡◌, true, [], get_or};
-ghost use Rattle.rules.specs.Seen.{input_of, narrow};
+ghost use Rattle.records.specs.Refusals.{answer, number};
+ghost use Rattle.rules.specs.Seen.{narrow};
 ghost use Rattle.rules.specs.Reports.{no_reports};
 ghost use Rattle.image.specs.Image.{tool_from, reports_from};
 ghost use Rattle.follow.specs.Follow.{KeptOutside};
 ghost use Rattle.mapped.specs.Bytes.{own_in};
-ghost use Rattle.prediction.specs.State.{timed};
-ghost use Rattle.wafers.specs.Outcome.{bringing};
+ghost use Rattle.wafers.specs.Outcome.{brought_in};
 ghost use Rattle.hands.specs.Sound.{sound_tool};
 ghost use Rattle.handled.specs.Bytes.{handled_in, left};
 ghost use Rattle.handled.specs.Passing.{NoneElsewhere, passed_in};
@@ -16,42 +16,33 @@ use follow::blocks::BLOCKS;
 use hands::alarm::Alarm;
 use image::layout::*;
 use image::report::no_reports;
+use records::refusal::Refusal;
 use sight::look::narrow;
-use ticks::seconds::Sent;
+use wafers::input::Brought;
 use wafers::step::brought_step;
 
 // An answer with nothing to report.
-pub fn refused(o: &mut [u8; REPORTS_BYTES], answer: u8) -> u8
-    ensures value { result ≡ answer }
+pub fn refused(o: &mut [u8; REPORTS_BYTES], refusal: Refusal) -> Result<(), Refusal>
+    ensures value { answer result ≡ number refusal }
     ensures o_after { reports_from o.new ≡ no_reports }
 {
     no_reports(o);
-    answer
+    Err(refusal)
 }
 
 // a is what becomes of the alarm of its port; where that is no port of the tool's, none.
 pub fn passed(
     m: &mut [[u8; TOOL_BYTES]; BLOCKS],
     o: &mut [u8; REPORTS_BYTES],
-    number: u32,
-    port: u32,
-    value: u32,
-    name: &[u8],
-    codes: &[u8],
-    clock: u32,
-    time: u32,
-    wafers: Sent,
+    i: Brought,
     a: Alarm,
-) -> u8
+) -> Result<(), Refusal>
     requires m_value { sound_tool (handled_in m.old) ≡ true }
-    requires none_elsewhere { NoneElsewhere (tool_from (get_or m.old 0 [])) (narrow port) a }
-    ensures result_after { left m.new o.new result ≡ passed_in (handled_in m.old)
-        (bringing (timed (input_of number port value name.now codes.now) clock time) wafers) (narrow port) a }
+    requires none_elsewhere { NoneElsewhere (tool_from (get_or m.old 0 [])) (narrow i.timed.input.port) a }
+    ensures result_after { left m.new o.new (answer result) ≡ passed_in (handled_in m.old) (brought_in i.entry) (narrow i.entry.timed.input.port) a }
     ensures kept_outside { KeptOutside 0 1605 (own_in m.old) (own_in m.new) }
 {
-    let answer = brought_step(m, o, number, port, value, name, codes, clock, time, wafers);
-    if answer == 0 {
-        settle_all(m, o, narrow(port), a);
-    }
-    answer
+    brought_step(m, o, i)?;
+    settle_all(m, o, narrow(i.timed.input.port), a);
+    Ok(())
 }

@@ -1,5 +1,5 @@
 // What becomes of the alarms after an input, port by port, and what is reported of them.
-ghost use Rattle.std.specs.Prelude.{◌≡◌, cond, [], ◌≤◌, get_or, set};
+ghost use Rattle.std.specs.Prelude.{◌≡◌, [], ◌≤◌, get_or, set};
 ghost use Rattle.rules.specs.State.{spot_of};
 ghost use Rattle.image.specs.Image.{tool_from, reports_from};
 ghost use Rattle.parts.specs.Told.{note_all};
@@ -16,8 +16,6 @@ use hands::alarm::Alarm;
 use image::layout::*;
 use image::read::{port_at, spot_of};
 use parts::report::note_if;
-use queued::below::blocks;
-use records::choose::first;
 use records::name::Name;
 use records::port::Port;
 use records::words::*;
@@ -25,19 +23,17 @@ use records::words::*;
 const MODEL: u8 = 9;
 
 // The alarm clears at READY TO LOAD, and only a port that is loading holds a pod.
+#[tactic(auto, unfolding(hands::specs::Alarms::settled))]
 fn settled(q: Port, a: Alarm) -> Alarm
     ensures { result ≡ settled q a }
 {
-    Alarm {
-        on: first(q.transfer == READY_TO_LOAD, OFF, a.on),
-        held: first(q.movement == LOADING, a.held, OFF),
-    }
-}
-
-fn chosen(b: bool, x: Alarm, y: Alarm) -> Alarm
-    ensures { result ≡ cond b x y }
-{
-    if b { x } else { y }
+    let on = if q.transfer == READY_TO_LOAD {
+        OFF
+    } else {
+        a.on
+    };
+    let held = if q.movement == LOADING { a.held } else { OFF };
+    Alarm { on, held }
 }
 
 // Port p: a is what becomes of its alarm if the input was for it.
@@ -58,10 +54,10 @@ fn settle_port(
         (settled_at (tool_from (get_or m.old 0 [])) (alarms_from (own_in m.old)) port a p)) }
     ensures kept_outside { KeptOutside 1597 1605 (own_in m.old) (own_in m.new) }
 {
-    blocks(m);
     let q = port_at(&m[0], p);
     let old = alarm_at(&m[1], p);
-    let new = settled(q, chosen(port == p, a, old));
+    let mine = if port == p { a } else { old };
+    let new = settled(q, mine);
     note_if(o, old.on != new.on, MODEL, p, Name::none(), old.on, new.on);
     put_alarm(&mut m[1], spot_of(p), new);
 }

@@ -11,11 +11,11 @@ use follow::blocks::BLOCKS;
 use hands::alarm::Alarm;
 use image::layout::TOOL_BYTES;
 use image::read::{port_at, used};
-use queued::below::blocks;
 use records::port::Port;
 use records::words::*;
 
 // A held port is loading with its alarm on; none is on at READY TO LOAD.
+#[tactic(auto, unfolding(hands::specs::Sound::agrees))]
 fn agrees(q: Port, a: Alarm) -> bool
     ensures { result ≡ agrees q a }
 {
@@ -27,31 +27,27 @@ fn agrees(q: Port, a: Alarm) -> bool
         & !(on & (q.transfer == READY_TO_LOAD))
 }
 
+#[tactic(auto, unfolding(hands::specs::Sound::is_none))]
 fn is_none(a: Alarm) -> bool
     ensures { result ≡ is_none a }
 {
-    (a.on == OFF) & (a.held == OFF)
+    a.on == OFF && a.held == OFF
 }
 
 fn sound_at(m: &[[u8; TOOL_BYTES]; BLOCKS], p: u8) -> bool
     ensures { result ≡ sound_at (tool_from (get_or m.now 0 [])) (alarms_from (own_in m.now)) p }
 {
-    blocks(m);
     let a = alarm_at(&m[1], p);
     if p <= used(&m[0]) {
-        let q = port_at(&m[0], p);
-        agrees(q, a)
+        agrees(port_at(&m[0], p), a)
     } else {
         is_none(a)
     }
 }
 
+#[tactic(auto, unfolding(crate::specs::Tests::sound_alarms))]
 pub fn sound_alarms(m: &[[u8; TOOL_BYTES]; BLOCKS]) -> bool
     ensures { result ≡ sound_alarms (tool_from (get_or m.now 0 [])) (alarms_from (own_in m.now)) }
 {
-    let a = sound_at(m, 1);
-    let b = sound_at(m, 2);
-    let c = sound_at(m, 3);
-    let d = sound_at(m, 4);
-    a & (b & (c & d))
+    sound_at(m, 1) && sound_at(m, 2) && sound_at(m, 3) && sound_at(m, 4)
 }

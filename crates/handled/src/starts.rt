@@ -1,58 +1,57 @@
 // 13. LoadStart and 24. UnloadStart: by hand, or by an automatic vehicle.
 ghost use Rattle.std.specs.Prelude.{◌≡◌, true, cond, ◌||◌, ◌&&◌, not, [], ◌∷◌, eqb};
+ghost use Rattle.records.specs.Refusals.{answer, number};
 ghost use Rattle.rules.specs.Row.{when, unless, judge};
-ghost use Rattle.rules.specs.Seen.{input_of};
 ghost use Rattle.follow.specs.Follow.{KeptOutside};
 ghost use Rattle.mapped.specs.Bytes.{own_in};
-ghost use Rattle.prediction.specs.State.{timed};
-ghost use Rattle.wafers.specs.Outcome.{bringing};
+ghost use Rattle.wafers.specs.Outcome.{brought_in};
 ghost use Rattle.hands.specs.Alarms.{raised};
 ghost use Rattle.hands.specs.Sound.{sound_tool};
 ghost use Rattle.hands.specs.Outcome.{given_in};
 ghost use Rattle.handled.specs.Bytes.{handled_in, left};
 
-use crate::alarm::alarm_at;
+use crate::here::{Here, find_port};
 use crate::passed::{passed, refused};
+use crate::words::*;
 use follow::blocks::BLOCKS;
 use hands::alarm::Alarm;
 use image::layout::*;
-use image::read::{port_at, used};
 use line::asked::some_started_to;
-use queued::below::blocks;
-use records::choose::first;
 use records::port::Port;
+use records::refusal::Refusal;
 use records::words::*;
 use sight::look::narrow;
-use ticks::seconds::Sent;
-
-const LOAD_START: u32 = 13;
+use wafers::input::Brought;
 
 // the second number
 const BY_HAND: u8 = 0;
 
 const AUTOMATIC: u8 = 1;
 
-// An automatic start in MANUAL.
-const NOT_AUTOMATIC: u8 = 13;
-
-fn raised_if(b: bool, a: Alarm) -> Alarm
-    ensures { result ≡ cond b (raised a) a }
+// A start by hand at a port in AUTO raises the alarm.
+fn after_start(by: u8, at: Here) -> Alarm
+    ensures { result ≡ cond (eqb by 0 && eqb at.port.access 1) (raised at.alarm) at.alarm }
 {
-    if b {
-        Alarm {
-            on: ON,
-            held: a.held,
-        }
+    if by == BY_HAND && at.port.access == AUTO {
+        Alarm { on: ON, ..at.alarm }
     } else {
-        a
+        at.alarm
     }
 }
 
-// What an automatic start in MANUAL is answered: 13, unless something lower holds.
-fn not_automatic(fits: bool, started: bool, ready: bool) -> u8
-    ensures { result ≡ judge (unless fits 1 ∷ when started 4 ∷ unless ready 5 ∷ when true 13 ∷ []) }
+// Why an automatic start in MANUAL is refused: for that, unless something lower holds.
+fn not_automatic(is_port: bool, started: bool, ready: bool) -> Refusal
+    ensures { number result ≡ judge (unless is_port 1 ∷ when started 4 ∷ unless ready 5 ∷ when true 13 ∷ []) }
 {
-    first(!fits, 1, first(started, 4, first(!ready, 5, NOT_AUTOMATIC)))
+    if !is_port {
+        Refusal::OutOfRange
+    } else if started {
+        Refusal::ReservedOrTied
+    } else if !ready {
+        Refusal::Conditions
+    } else {
+        Refusal::AutomaticInManual
+    }
 }
 
 // Whether a start may find the port so: READY TO LOAD for a load, READY TO UNLOAD for an unload.
@@ -69,39 +68,28 @@ fn is_ready(number: u32, q: Port) -> bool
 pub fn start_step(
     m: &mut [[u8; TOOL_BYTES]; BLOCKS],
     o: &mut [u8; REPORTS_BYTES],
-    number: u32,
-    port: u32,
-    value: u32,
-    name: &[u8],
-    codes: &[u8],
-    clock: u32,
-    time: u32,
-    wafers: Sent,
-) -> u8
+    i: Brought,
+) -> Result<(), Refusal>
     requires m_value { sound_tool (handled_in m.old) ≡ true }
-    requires number_value { (eqb number 13 || eqb number 24) ≡ true }
-    ensures result_after { left m.new o.new result ≡ given_in (handled_in m.old)
-        (bringing (timed (input_of number port value name.now codes.now) clock time) wafers) }
+    requires number_value { (eqb i.timed.input.number 13 || eqb i.timed.input.number 24) ≡ true }
+    ensures result_after { left m.new o.new (answer result) ≡ given_in (handled_in m.old) (brought_in i.entry) }
     ensures kept_outside { KeptOutside 0 1605 (own_in m.old) (own_in m.new) }
 {
-    blocks(m);
-    let p = narrow(port);
-    let by = narrow(value);
-    let q = port_at(&m[0], p);
-    let a = alarm_at(&m[1], p);
-    if by <= AUTOMATIC {
-        if (by == AUTOMATIC) & (q.access == MANUAL) {
-            let started = (number == LOAD_START) & some_started_to(&m[1], p);
-            let fits = (1 <= p) & (p <= used(&m[0]));
-            refused(o, not_automatic(fits, started, is_ready(number, q)))
-        } else {
-            let raises = (by == BY_HAND) & (q.access == AUTO);
-            let b = raised_if(raises, a);
-            passed(
-                m, o, number, port, value, name, codes, clock, time, wafers, b,
-            )
-        }
+    let by = narrow(i.timed.input.value);
+    if AUTOMATIC < by {
+        return refused(o, Refusal::OutOfRange);
+    }
+    let at = find_port(m, i);
+    if (by == AUTOMATIC) & (at.port.access == MANUAL) {
+        let number = i.timed.input.number;
+        let started = some_started_to(&m[1], narrow(i.timed.input.port));
+        let refusal = not_automatic(
+            at.is_port,
+            (number == LOAD_START) & started,
+            is_ready(number, at.port),
+        );
+        refused(o, refusal)
     } else {
-        refused(o, 1)
+        passed(m, o, i, after_start(by, at))
     }
 }

@@ -3,4 +3,3 @@ pub mod Kept
 pub mod Bytes
 pub mod Undone
 pub mod Pods
-pub mod Called

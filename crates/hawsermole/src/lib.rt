@@ -22,11 +22,16 @@ use items::reader::read_message;
 use judge::log::judge_log;
 use model8::facts::is_timed;
 use names::check::name_length;
+use prediction::input::Timed;
 use records::carrier::Carrier;
+use records::refusal::answer;
 use replies::reply::reply;
+use rules::input::Input;
 use ticks::seconds::{no_wafers, wafers_from};
 use tool::whole::{whole_setup, whole_sound};
-use waiting::found::{Found, before_end, stopped_at, waits_for_host};
+use wafers::input::Brought;
+use wafers::step::WAFERS;
+use waiting::found::{Found, before_end, first_waiting, stopped_at};
 
 // 0x00MMmmpp: 0.14.0, HM_VERSION of the header that belongs to it.
 #[unsafe(no_mangle)]
@@ -60,15 +65,14 @@ pub extern "C" fn hm_setup(
 ) -> u32
     ensures { SetUpCall ports places setting timeout result tool.new }
 {
-    let answer = whole_setup(tool, ports, places, setting, timeout);
-    answer as u32
+    u32::from(answer(whole_setup(tool, ports, places, setting, timeout)))
 }
 
 #[unsafe(no_mangle)]
 pub extern "C" fn hm_sound(tool: &[[u8; 1891]; 2]) -> u32
     ensures { result ≡ cond (sound_whole (whole_in tool.now)) 1 0 }
 {
-    if whole_sound(tool) { 1 } else { 0 }
+    u32::from(whole_sound(tool))
 }
 
 #[unsafe(no_mangle)]
@@ -91,9 +95,15 @@ pub extern "C" fn hm_step(
     ensures { StepCall tool.old (brought (timed (input_of number port value name.now codes.now) 0 0) [])
         result tool.new reports.new }
 {
-    let none = no_wafers();
-    let answer = door_step(tool, reports, number, port, value, name, codes, 0, 0, none);
-    answer as u32
+    let input = Input {
+        number,
+        port,
+        value,
+        name,
+        codes,
+    };
+    let said = door_step(tool, reports, Brought::alone(input));
+    u32::from(answer(said))
 }
 
 // The inputs that bring a clock: 31, and 32 to 34 with a name, Tp or Te. Any other number is none of them.
@@ -109,21 +119,20 @@ pub extern "C" fn hm_time_step(
     ensures { StepCall tool.old (bringing_clock number clock name.now time)
         result tool.new reports.new }
 {
-    let none = [0; 0];
-    let wafers = no_wafers();
-    let answer = door_step(
-        tool,
-        reports,
-        of_clock(number),
-        0,
-        0,
+    let number = if is_timed(number) { number } else { 0 };
+    let input = Input {
+        number,
+        port: 0,
+        value: 0,
         name,
-        &none,
-        clock,
-        time,
-        wafers,
-    );
-    answer as u32
+        codes: &[],
+    };
+    let timed = Timed { input, clock, time };
+    let brought = Brought {
+        timed,
+        wafers: no_wafers(),
+    };
+    u32::from(answer(door_step(tool, reports, brought)))
 }
 
 // 35: Tp comes from the times of up to 25 wafers, a process time and a handling time each, in turn.
@@ -138,17 +147,23 @@ pub extern "C" fn hm_wafers_step(
     ensures { StepCall tool.old (bringing_wafers clock name.now times.now)
         result tool.new reports.new }
 {
-    let none = [0; 0];
-    let wafers = wafers_from(times);
-    let answer = door_step(tool, reports, 35, 0, 0, name, &none, clock, 0, wafers);
-    answer as u32
-}
-
-// An input's number, if it brings a clock, and else none's.
-fn of_clock(number: u32) -> u32
-    ensures { result ≡ cond (is_timed number) number 0 }
-{
-    if is_timed(number) { number } else { 0 }
+    let input = Input {
+        number: WAFERS,
+        port: 0,
+        value: 0,
+        name,
+        codes: &[],
+    };
+    let timed = Timed {
+        input,
+        clock,
+        time: 0,
+    };
+    let brought = Brought {
+        timed,
+        wafers: wafers_from(times),
+    };
+    u32::from(answer(door_step(tool, reports, brought)))
 }
 
 // The first carrier that waits for the host, in a table that the equipment lends: C passes its first record and how many there are.
@@ -156,19 +171,10 @@ fn of_clock(number: u32) -> u32
 pub extern "C" fn hm_waiting(carriers: &[Carrier], found: &mut Found) -> u32
     ensures { (found.new ≡ found_in carriers.now) × (result ≡ answer_in carriers.now) }
 {
-    let mut i = 0;
-    while i < carriers.len() {
-        let c = carriers[i];
-        let w = waits_for_host(c);
-        if w {
-            break;
-        }
-        i += 1;
-    }
     let n = carriers.len();
-    let f = stopped_at(i, n);
-    *found = f;
-    before_end(i, n)
+    let first = first_waiting(carriers).unwrap_or(n);
+    *found = stopped_at(first, n);
+    before_end(first, n)
 }
 
 #[unsafe(no_mangle)]
@@ -181,8 +187,7 @@ pub extern "C" fn hm_secs_step(
     ensures { SecsCall tool.old message.now
         result tool.new reports.new items.new }
 {
-    let answer = bridge_step(tool, reports, message, items);
-    answer as u32
+    u32::from(answer(bridge_step(tool, reports, message, items)))
 }
 
 // The bridge's whole way: the text of S3F17 in, the text of S3F18 out, into room that the caller lends.
@@ -198,8 +203,7 @@ pub extern "C" fn hm_secs_exchange(
     ensures { ExchangeCall tool.old message.now room.old
         result tool.new reports.new items.new room.new length.new }
 {
-    let answer = exchange(tool, reports, message, items, room, length);
-    answer as u32
+    u32::from(answer(exchange(tool, reports, message, items, room, length)))
 }
 
 // The text of S3F18 for an answer.
@@ -207,8 +211,16 @@ pub extern "C" fn hm_secs_exchange(
 pub extern "C" fn hm_reply(number: u32, room: &mut [u8], length: &mut u32) -> u32
     ensures { Wrote room.old (reply_text number) result room.new length.new }
 {
-    let answer = reply(number, room, length);
-    answer as u32
+    match reply(number, room) {
+        Ok(many) => {
+            *length = many;
+            0
+        }
+        Err(refusal) => {
+            *length = 0;
+            u32::from(refusal.number())
+        }
+    }
 }
 
 // Where reading a message stopped: at the item that was refused, at the first byte left over, or at the end.
@@ -216,8 +228,7 @@ pub extern "C" fn hm_reply(number: u32, room: &mut [u8], length: &mut u32) -> u3
 pub extern "C" fn hm_secs_at(message: &[u8]) -> usize
     ensures { result ≡ (read_message message.now).at }
 {
-    let w = read_message(message);
-    w.at
+    read_message(message).at
 }
 
 // A log judged by document 01: 0, it agrees; 1, an entry disagrees; 27 to 29, it is refused. `judged` is how many entries agree before
@@ -232,6 +243,6 @@ pub extern "C" fn hm_judge(
     ensures { judgement result judged.new tool.new reports.new ≡ judge log.now }
 {
     let v = judge_log(log, tool, reports);
-    *judged = [v.entry as u64, v.at as u64, v.answer as u64];
-    v.says as u32
+    *judged = [v.entry as u64, v.at as u64, u64::from(v.answer)];
+    u32::from(v.says.number())
 }

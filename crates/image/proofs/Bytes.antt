@@ -15,10 +15,10 @@ by_table : (P : List ℕ → Type 0) (n : ℕ) (l : List ℕ) → length l ≡ n
 by_table P n l e h = subst P (is_table l n 0 e) (h (λ k. get_or l k 0))
 
 pub port_made : (t a r v p g : ℕ) (n : List ℕ) → length n ≡ 16
-    → set (set (set (sets (t ∷ a ∷ r ∷ replicate 19 0) 3 n) 19 v) 20 p) 21 g ≡ t ∷ a ∷ r ∷ (n ++ (v ∷ p ∷ g ∷ []))
+    → set (set (set (set (set (set (sets (replicate 22 0) 3 n) 0 t) 1 a) 2 r) 19 v) 20 p) 21 g ≡ t ∷ a ∷ r ∷ (n ++ (v ∷ p ∷ g ∷ []))
 unfolding table
 port_made t a r v p g n e =
-    by_table (λ n. set (set (set (sets (t ∷ a ∷ r ∷ replicate 19 0) 3 n) 19 v) 20 p) 21 g ≡ t ∷ a ∷ r ∷ (n ++ (v ∷ p ∷ g ∷ []))) 16 n e
+    by_table (λ n. set (set (set (set (set (set (sets (replicate 22 0) 3 n) 0 t) 1 a) 2 r) 19 v) 20 p) 21 g ≡ t ∷ a ∷ r ∷ (n ++ (v ∷ p ∷ g ∷ []))) 16 n e
     (λ f. refl)
 
 pub port_back : (q : Port) → length q.tie.bytes ≡ 16 → port_from (port_bytes q) 0 ≡ q
@@ -74,10 +74,10 @@ carrier_back c e h =
     (λ f. by_table (λ m. carrier_from (carrier_bytes (called c (table 16 f) m)) 0 ≡ called c (table 16 f) m) 25 c.map h (λ g. refl))
 
 pub report_made : (m p o w : ℕ) (n : List ℕ) → length n ≡ 16
-    → set (set (sets (m ∷ p ∷ replicate 18 0) 2 n) 18 o) 19 w ≡ m ∷ p ∷ (n ++ (o ∷ w ∷ []))
+    → set (set (set (set (sets (replicate 20 0) 2 n) 0 m) 1 p) 18 o) 19 w ≡ m ∷ p ∷ (n ++ (o ∷ w ∷ []))
 unfolding table
 report_made m p o w n e =
-    by_table (λ n. set (set (sets (m ∷ p ∷ replicate 18 0) 2 n) 18 o) 19 w ≡ m ∷ p ∷ (n ++ (o ∷ w ∷ []))) 16 n e (λ f. refl)
+    by_table (λ n. set (set (set (set (sets (replicate 20 0) 2 n) 0 m) 1 p) 18 o) 19 w ≡ m ∷ p ∷ (n ++ (o ∷ w ∷ []))) 16 n e (λ f. refl)
 
 pub report_back : (r : Report) → length r.name.bytes ≡ 16 → report_from (report_bytes r) 0 ≡ r
 unfolding table report_bytes

@@ -6,7 +6,7 @@ use mathlib.Core.Path.{◌≡◌, refl, ap, ◌∙◌}
 use mathlib.Core.Logic.{◌≢◌}
 use mathlib.Core.Bool.{Bool, true, false}
 use mathlib.Core.List.{List, [], ◌∷◌, ◌++◌}
-use lib.ListN.{length, get_or, length-append}
+use lib.ListN.{length, get_or, length-append, get_or-eq_default}
 use lib.Seq.{sets}
 use lib.Dec.{ltb}
 use borrow.Author.Tests.{ltb-true, ltb-false}
@@ -154,3 +154,10 @@ port_is m k d b = getD_table 4 (λ k. port_from m (port_start k)) k d b
 pub record_is : (m : List ℕ) (k : ℕ) (d : Carrier) → k < 36 → get_or (tool_from m).carriers k d ≡ carrier_from m (carrier_start k)
 unfolding tool_from
 record_is m k d b = getD_table 36 (λ k. carrier_from m (carrier_start k)) k d b
+
+-- past their end
+pub port_out : (m : List ℕ) (k : ℕ) (d : Port) → 4 ≤ k → get_or (tool_from m).ports k d ≡ d
+port_out m k d b = let l = ports_long m in get_or-eq_default (tool_from m).ports d (omega arith)
+
+pub record_out : (m : List ℕ) (k : ℕ) (d : Carrier) → 36 ≤ k → get_or (tool_from m).carriers k d ≡ d
+record_out m k d b = let l = carriers_long m in get_or-eq_default (tool_from m).carriers d (omega arith)

@@ -2,13 +2,13 @@
 use Prim.Native.Nat.{ℕ, zero, suc, ◌+◌, ◌<◌, ◌≤◌, suc-le-suc}
 use native.Mathlib.Nat.{le_of_suc-le-suc}
 use native.Mathlib.Omega.{arith}
-use mathlib.Core.Path.{◌≡◌, refl, ap, ◌∙◌}
+use mathlib.Core.Path.{◌≡◌, refl, ap, sym, ◌∙◌}
 use mathlib.Core.Logic.{◌≢◌}
 use mathlib.Core.List.{List, [], ◌∷◌, ◌++◌}
-use lib.ListN.{length, get_or, take, set, replicate}
-use lib.Seq.{take_all}
-use Rattle.lists.specs.Lists.{fill, shifted}
-use Rattle.lists.proofs.Tables.{fill_more}
+use lib.ListN.{length, get_or, take, drop, set, replicate, length-drop}
+use lib.Seq.{length-take-le}
+use Rattle.std.proofs.lemmas.List.{get_or-take, get_or-drop}
+use Rattle.lists.specs.Lists.{shifted}
 use Rattle.image.specs.Image.{table}
 
 module _ {A : Type 0} where
@@ -31,29 +31,23 @@ module _ {A : Type 0} where
   table_same zero f g h = refl
   table_same (suc n) f g h = rw (h 0 (omega arith), table_same n (λ k. f (suc k)) (λ k. g (suc k)) (λ k b. h (suc k) (suc-le-suc b)))
 
-  fill_all : (l : List A) (n : ℕ) (z : A) → length l ≡ n → fill n z l ≡ l
-  unfolding fill
-  fill_all [] zero z e = refl
-  fill_all [] (suc n) z e = absurd (omega arith)
-  fill_all (x ∷ l) zero z e = absurd (omega arith)
-  fill_all (x ∷ l) (suc n) z e = ap (λ t. x ∷ t) (fill_all l n z (omega arith))
-
-  -- a loop that fills an array with a table
-  pub copies : (n : ℕ) (f : ℕ → A) (z : A) (i : ℕ) → i < n
-      → set (fill n z (take i (table n f))) i (f i) ≡ fill n z (take (i + 1) (table n f))
-  copies n f z i h =
-      let l = length_table n f in
-      rw (← getD_table n f i z h) (fill_more n z z (table n f) i (omega arith))
-
-  pub copied : (n : ℕ) (f : ℕ → A) (z : A) → fill n z (take n (table n f)) ≡ table n f
-  copied n f z = let l = length_table n f in rw (take_all n (table n f) (omega arith)) (fill_all (table n f) n z l)
-
   pub is_table : (l : List A) (n : ℕ) (d : A) → length l ≡ n → table n (λ k. get_or l k d) ≡ l
   unfolding table
   is_table [] zero d e = refl
   is_table [] (suc n) d e = absurd (omega arith)
   is_table (x ∷ l) zero d e = absurd (omega arith)
   is_table (x ∷ l) (suc n) d e = ap (λ t. x ∷ t) (is_table l n d (omega arith))
+
+  -- a list whose entries are known
+  pub is_filled : (l : List A) (n : ℕ) (f : ℕ → A) (d : A) → length l ≡ n → ((k : ℕ) → k < n → get_or l k d ≡ f k) → l ≡ table n f
+  is_filled l n f d e h = sym (is_table l n d e) ∙ table_same n (λ k. get_or l k d) f h
+
+  -- a part of a list is a table of its entries
+  pub part_is : (l : List A) (o n : ℕ) (d : A) → o + n ≤ length l → take n (drop o l) ≡ table n (λ k. get_or l (o + k) d)
+  part_is l o n d h =
+      let r = length-drop o l in
+      is_filled (take n (drop o l)) n _ d (length-take-le n (drop o l) (omega arith))
+      (λ k b. get_or-take n (drop o l) k d b ∙ get_or-drop o l k d)
 
   -- one entry replaced
   pub table_set : (n : ℕ) (f g : ℕ → A) (k : ℕ) (x : A) → g k ≡ x → ((j : ℕ) → j < n → j ≢ k → g j ≡ f j) → table n g ≡ set (table n f) k x

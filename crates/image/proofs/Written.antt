@@ -1,11 +1,11 @@
 -- Laws of bytes written over others.
 use Prim.Native.Nat.{ℕ, zero, suc, ◌+◌, ◌<◌, ◌≤◌}
-use native.Mathlib.Nat.{le_of_suc-le-suc, zero-add}
+use native.Mathlib.Nat.{le_of_suc-le-suc}
 use native.Mathlib.Omega.{arith}
 use mathlib.Core.Path.{◌≡◌, refl, ap, sym, ◌∙◌}
 use mathlib.Core.List.{List, [], ◌∷◌, ◌++◌}
-use lib.ListN.{length, get_or, take, set, replicate, length-set, length-replicate, get_or-replicate, drop_of_length-le}
-use lib.Seq.{sets, take-suc, length-take-le, get_or-set_same, get_or-set_other, sets-eq}
+use lib.ListN.{length, get_or, take, set, length-set}
+use lib.Seq.{sets, take-suc, length-take-le, get_or-set_same, get_or-set_other}
 use Rattle.image.specs.Image.{byte_at}
 
 module _ {A : Type 0} where
@@ -26,12 +26,6 @@ module _ {A : Type 0} where
       let e : i + 1 ≡ suc i = omega arith in
       let n = length-take-le i vs (omega arith) in
       rw (e, take-suc vs i d h, sets_last l o (take i vs) (get_or vs i d), n)
-
--- a loop that writes zeros
-pub clears : (l : List ℕ) (n i : ℕ) → i < n → set (sets l 0 (take i (replicate n 0))) i 0 ≡ sets l 0 (take (i + 1) (replicate n 0))
-clears l n i h =
-    let b = length-replicate {A = ℕ} n 0 in
-    rw (zero-add, get_or-replicate {A = ℕ} n i 0 0 h) at (writes l 0 (replicate n 0) i 0 (omega arith))
 
 -- bytes written from o on: those before and after stay, and those there are the ones written
 pub before_stays : (m : List ℕ) (o : ℕ) (vs : List ℕ) (i : ℕ) → i < o → byte_at (sets m o vs) i ≡ byte_at m i
@@ -55,11 +49,3 @@ stands_there m o (x ∷ vs) (suc i) h b =
     let e : o + suc i ≡ suc o + i = omega arith in
     let l = length-set m o x in
     rw e (stands_there (set m o x) (suc o) vs i (omega arith) (le_of_suc-le-suc b))
-
-append-[] : (l : List ℕ) → l ++ [] ≡ l
-append-[] [] = refl
-append-[] (x ∷ l) = ap (λ t. x ∷ t) (append-[] l)
-
--- all of the list is written
-pub all_written : (m vs : List ℕ) → length m ≡ length vs → sets m 0 vs ≡ vs
-all_written m vs e = sets-eq vs m 0 (omega arith) ∙ rw (zero-add, drop_of_length-le m {i = length vs} (omega arith)) (append-[] vs)

@@ -11,12 +11,10 @@ use rules::report::Report;
 fn report_bytes(r: Report) -> [u8; REPORT_BYTES]
     ensures { result ≡ report_bytes r }
 {
-    let called = r.name;
-    let name = called.bytes;
     let mut b = [0; REPORT_BYTES];
+    put(&mut b, SUBJECT_NAME_OFFSET, &r.name.bytes);
     b[MODEL_OFFSET] = r.model;
     b[SUBJECT_PORT_OFFSET] = r.port;
-    put(&mut b, SUBJECT_NAME_OFFSET, &name);
     b[OLD_OFFSET] = r.old;
     b[NEW_OFFSET] = r.new;
     b
@@ -28,11 +26,11 @@ pub fn put_report(m: &mut [u8; REPORTS_BYTES], k: usize, r: Report)
     ensures m_after { m.new ≡ sets m.old (report_start k) (report_bytes r) }
     ensures m_len { length m.old ≡ 201 }
 {
-    let b = report_bytes(r);
-    put(m, REPORTS_START + REPORT_BYTES * k, &b);
+    put(m, REPORTS_START + REPORT_BYTES * k, &report_bytes(r));
 }
 
 // How many reports there are.
+#[tactic(auto, unfolding(crate::specs::Image::reports_from))]
 pub fn reported(m: &[u8; REPORTS_BYTES]) -> u8
     ensures { result ≡ (reports_from m.now).count }
 {

@@ -7,16 +7,13 @@ use crate::layout::*;
 use records::carrier::Carrier;
 use records::port::Port;
 
-// The bytes b, from o on.
+// The bytes b, from o on. Copied one by one: `copy_from_slice` needs memmove, which a board has not (tests/c/archive.sh).
 pub fn put(m: &mut [u8], o: usize, b: &[u8])
     requires { o + length b.now ≤ length m.old }
     ensures { m.new ≡ sets m.old o b.now }
 {
-    let n = b.len();
-    let mut i = 0;
-    while i < n {
+    for i in 0..b.len() {
         m[o + i] = b[i];
-        i += 1;
     }
 }
 
@@ -24,39 +21,30 @@ pub fn put(m: &mut [u8], o: usize, b: &[u8])
 pub fn clear(m: &mut [u8])
     ensures { m.new ≡ replicate (length m.old) 0 }
 {
-    let n = m.len();
-    let mut i = 0;
-    while i < n {
-        m[i] = 0;
-        i += 1;
-    }
+    m.fill(0);
 }
 
 fn port_bytes(q: Port) -> [u8; PORT_BYTES]
     ensures { result ≡ port_bytes q }
 {
-    let tie = q.tie;
-    let name = tie.bytes;
     let mut b = [0; PORT_BYTES];
+    put(&mut b, TIE_OFFSET, &q.tie.bytes);
     b[TRANSFER_OFFSET] = q.transfer;
     b[ACCESS_OFFSET] = q.access;
     b[RESERVED_OFFSET] = q.reserved;
-    put(&mut b, TIE_OFFSET, &name);
     b[MOVEMENT_OFFSET] = q.movement;
     b[POD_OFFSET] = q.pod;
     b[TAG_OFFSET] = q.tag;
     b
 }
 
+#[tactic(auto, using(crate::proofs::Bytes::carrier_made), unfolding(crate::specs::Image::carrier_bytes))]
 fn carrier_bytes(c: Carrier) -> [u8; CARRIER_BYTES]
     ensures { result ≡ carrier_bytes c }
 {
-    let called = c.name;
-    let name = called.bytes;
-    let map = c.map;
     let mut b = [0; CARRIER_BYTES];
-    put(&mut b, NAME_OFFSET, &name);
-    put(&mut b, MAP_OFFSET, &map);
+    put(&mut b, NAME_OFFSET, &c.name.bytes);
+    put(&mut b, MAP_OFFSET, &c.map);
     b[PLACE_OFFSET] = c.place;
     b[SPOT_OFFSET] = c.spot;
     b[PORT_OFFSET] = c.port;
@@ -69,13 +57,13 @@ fn carrier_bytes(c: Carrier) -> [u8; CARRIER_BYTES]
     b
 }
 
+// A port, a carrier: two calls each. A trait over what is stored would have more lines than it spares.
 pub fn put_port(m: &mut [u8; TOOL_BYTES], o: usize, q: Port)
     requires { o + 22 ≤ 1891 }
     ensures m_after { m.new ≡ sets m.old o (port_bytes q) }
     ensures m_len { length m.old ≡ 1891 }
 {
-    let b = port_bytes(q);
-    put(m, o, &b);
+    put(m, o, &port_bytes(q));
 }
 
 pub fn put_carrier(m: &mut [u8; TOOL_BYTES], o: usize, c: Carrier)
@@ -83,20 +71,16 @@ pub fn put_carrier(m: &mut [u8; TOOL_BYTES], o: usize, c: Carrier)
     ensures m_after { m.new ≡ sets m.old o (carrier_bytes c) }
     ensures m_len { length m.old ≡ 1891 }
 {
-    let b = carrier_bytes(c);
-    put(m, o, &b);
+    put(m, o, &carrier_bytes(c));
 }
 
-// The bytes after the record at o move up over it; the last record's stay.
+// The bytes after the record at o move up over it; the last record's stay. One by one, as `copy_within` needs memmove too.
 pub fn move_up(m: &mut [u8], o: usize)
     requires m_len { length m.old ≡ 1891 }
     requires o_bound { o ≤ 1841 }
     ensures { m.new ≡ table 1891 (moved_up m.old o 1841) }
 {
-    let mut j = o;
-    while j < LAST_RECORD_START {
-        let b = m[j + CARRIER_BYTES];
-        m[j] = b;
-        j += 1;
+    for j in o..LAST_RECORD_START {
+        m[j] = m[j + CARRIER_BYTES];
     }
 }

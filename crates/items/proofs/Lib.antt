@@ -1,3 +1,4 @@
+pub mod Coded
 pub mod Refusals
 pub mod Walked
 pub mod Few

@@ -8,6 +8,10 @@ use lib.ListN.{length}
 use lib.Dec.{eqb, leb, ltb}
 use borrow.Author.Tests.{leb-false, ltb-false, eqb-false}
 use Rattle.lists.proofs.Bools.{clash, or_false_l, or_false_r}
+use Rattle.std.specs.Prelude.{Result, Ok, Err}
+use Rattle.std.specs.Result.{is_err}
+use Rattle.records.specs.Refusals.{number, answer}
+use Rattle.records.specs.declared.refusal.Refusal.{Refusal}
 use Rattle.items.specs.Heads.{is_list, cut_short, unknown_code, bad_length, too_deep, too_many, lowest, refusal_of}
 use Rattle.items.specs.declared.head.Head.{Head}
 
@@ -62,3 +66,22 @@ module _ (m : List ℕ) (at : ℕ) (h : Head) (left count : ℕ) where
       go true zero e f = clash refl f
       go true (suc k) e f = omega arith
       go false k e f = clash e refl
+
+-- ── What a test of an answer says of its number ──
+pub numbered : (r : Refusal) → number r ≡ 0 → ⊥
+numbered r z = grind arith
+
+module _ (said : Result Unit Refusal) (b : Bool) (e : b ≡ is_err said) where
+  pub refuses : b ≡ true → answer said ≡ 0 → ⊥
+  refuses t = go said (sym e ∙ t)
+    where
+      go : (s : Result Unit Refusal) → is_err s ≡ true → answer s ≡ 0 → ⊥
+      go (Ok u) t z = clash t refl
+      go (Err r) t z = numbered r z
+
+  pub passes : b ≡ false → said ≡ Ok tt
+  passes t = go said (sym e ∙ t)
+    where
+      go : (s : Result Unit Refusal) → is_err s ≡ false → s ≡ Ok tt
+      go (Ok tt) t = refl
+      go (Err r) t = clash refl t

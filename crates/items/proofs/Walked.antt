@@ -9,10 +9,9 @@ use Rattle.lists.specs.Lists.{every}
 use Rattle.items.specs.Formats.{size_of, is_number, holds_one}
 use Rattle.items.specs.Tree.{Item, gathered, single}
 use Rattle.items.specs.Heads.{head_at, is_list, refusal_of}
-use Rattle.items.specs.Reading.{Reading, read_many, read_body, read_by, read_item, walked, walked_all}
+use Rattle.items.specs.Reading.{Reading, read_many, read_body, read_by, read_item, Walked, walked, walked_all}
 use Rattle.items.specs.declared.head.Head.{Head}
 use Rattle.items.specs.declared.head.Span.{Span}
-use Rattle.items.specs.declared.walk.Walk.{Walk}
 
 single_gathered : (l : List (Item Span)) → every single l ≡ single (Item.list (gathered l))
 unfolding single every gathered
@@ -44,7 +43,7 @@ module _ (m : List ℕ) (at count : ℕ) (h : Head) (e : h ≡ head_at m at) (r 
       rw (sym e, sym q, eq-eqb r 0 z, l, n) (rw (sym (single_gathered (read_many (read_item k m) h.many h.body (count + 1)).found)))
 
 -- what follows, with what was found before
-abbrev pub joined : Bool → Walk → Walk
+abbrev pub joined : Bool → Walked → Walked
 joined single w = record { refusal = w.refusal; at = w.at; count = w.count; single = single && w.single }
 
 pub and_assoc : (a b c : Bool) → (a && (b && c)) ≡ ((a && b) && c)
@@ -76,7 +75,7 @@ module _ (f : ℕ → ℕ → Reading (Item Span)) (at count : ℕ) (b : Bool) w
       (ap (λ (s : Bool). record { refusal = r.refusal; at = r.at; count = r.count; single = s })
       (sym (and_assoc b (single x.found) (every single r.found))))
 
-module _ (m : List ℕ) (left at count : ℕ) (b : Bool) (w : Walk) (e : w ≡ walked (read_item left m at count)) where
+module _ (m : List ℕ) (left at count : ℕ) (b : Bool) (w : Walked) (e : w ≡ walked (read_item left m at count)) where
   -- a refused element ends the list
   pub ends : (n k : ℕ) → n ≡ suc k → (w.refusal ≡ 0 → ⊥)
       → record { refusal = w.refusal; at = w.at; count = w.count; single = b }

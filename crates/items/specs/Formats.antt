@@ -1,5 +1,7 @@
 -- The formats of SEMI E5 that are accepted. A code is six bits, written in octal as there; every other code is unknown.
-use Rattle.std.specs.Prelude.{ℕ, ◌%◌, Bool, false, not, cond, ◌&&◌, ◌||◌, eqb}
+use Rattle.std.specs.Prelude.{ℕ, ◌%◌, Bool, false, not, cond, ◌&&◌, ◌||◌, List, [], ◌∷◌, Option, Some, None, eqb}
+use Rattle.items.specs.declared.formats.Format.{Format}
+use Rattle.items.specs.declared.formats.Format.TheVariants as format
 
 abbrev pub LIST : ℕ
 LIST = 0o00
@@ -42,6 +44,34 @@ U2 = 0o52
 
 abbrev pub U4 : ℕ
 U4 = 0o54
+
+abbrev pub code : Format → ℕ
+code format.List = LIST
+code format.Binary = BINARY
+code format.Boolean = BOOLEAN
+code format.Ascii = ASCII
+code format.I8 = I8
+code format.I1 = I1
+code format.I2 = I2
+code format.I4 = I4
+code format.F8 = F8
+code format.F4 = F4
+code format.U8 = U8
+code format.U1 = U1
+code format.U2 = U2
+code format.U4 = U4
+
+abbrev pub formats : List Format
+formats =
+    format.List ∷ format.Binary ∷ format.Boolean ∷ format.Ascii ∷ format.I8 ∷ format.I1 ∷ format.I2 ∷ format.I4 ∷ format.F8 ∷ format.F4 ∷ format.U8 ∷ format.U1 ∷ format.U2 ∷ format.U4 ∷ []
+
+-- the one of a code, if there is one
+unfoldable pub coded : ℕ → List Format → Option Format
+coded c [] = None
+coded c (f ∷ l) = cond (eqb c (code f)) (Some f) (coded c l)
+
+abbrev pub format_of : ℕ → Option Format
+format_of c = coded c formats
 
 -- The bytes of one element, 0 for an unknown code; a list's length counts its elements one by one.
 unfoldable pub size_of : ℕ → ℕ

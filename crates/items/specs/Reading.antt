@@ -1,6 +1,7 @@
 -- Items are met in the order in which they begin, a list before its elements; the first refusal ends the reading.
-use Rattle.std.specs.Prelude.{ℕ, zero, suc, ◌+◌, cond, List, [], ◌∷◌, eqb}
+use Rattle.std.specs.Prelude.{ℕ, zero, suc, ◌+◌, Bool, cond, List, [], ◌∷◌, eqb}
 use Rattle.lists.specs.Lists.{every}
+use Rattle.records.specs.Refusals.{answer}
 use Rattle.items.specs.Tree.{Item, nothing, gathered, single}
 use Rattle.items.specs.Tree.Item.{leaf, list}
 use Rattle.items.specs.Heads.{head_at, is_list, refusal_of}
@@ -63,8 +64,18 @@ abbrev pub read_message : List ℕ → Reading (Item Span)
 read_message m = read_item 6 m 0 0
 
 -- ── What the code keeps of a reading: whether every number and boolean item found holds one value ──
-abbrev pub walked : Reading (Item Span) → Walk
+pub record Walked : Type 0 where
+  pub refusal : ℕ
+  pub at : ℕ
+  pub count : ℕ
+  pub single : Bool
+
+abbrev pub walked : Reading (Item Span) → Walked
 walked r = record { refusal = r.refusal; at = r.at; count = r.count; single = single r.found }
 
-abbrev pub walked_all : Reading (List (Item Span)) → Walk
+abbrev pub walked_all : Reading (List (Item Span)) → Walked
 walked_all r = record { refusal = r.refusal; at = r.at; count = r.count; single = every single r.found }
+
+-- the same of what it hands on, its refusal by number
+abbrev pub kept : Walk → Walked
+kept w = record { refusal = answer w.said; at = w.at; count = w.count; single = w.single }

@@ -1,9 +1,11 @@
 // The head of an item: a format byte, a length with high byte first, then data.
-ghost use Rattle.std.specs.Prelude.{◌≡◌, ◌+◌, ◌^◌, ◌<◌, ◌≤◌, get_or};
+ghost use Rattle.std.specs.Prelude.{◌≡◌, ◌+◌, ◌^◌, ◌<◌, ◌≤◌, get_or, eqb};
+ghost use Rattle.records.specs.Refusals.{answer};
+ghost use Rattle.items.specs.Formats.{code};
 ghost use Rattle.items.specs.Heads.{number_at, head_at, refusal_of};
 
 use crate::formats::*;
-use records::choose::*;
+use records::refusal::*;
 
 // Where data stands in a message.
 #[derive(Clone, Copy)]
@@ -12,7 +14,8 @@ pub struct Span {
     pub many: usize,
 }
 
-// The format code, how many length bytes there are, where the data starts, and the length.
+// The format code, how many length bytes there are, where the data starts, and the length. The code stays a number, as in
+// `head_at` of specs/Heads.antt: whether it is a format's is asked after whether the item is cut short.
 #[derive(Clone, Copy)]
 pub struct Head {
     pub code: usize,
@@ -21,16 +24,23 @@ pub struct Head {
     pub many: usize,
 }
 
+impl Head {
+    pub fn is(self, format: Format) -> bool
+        ensures { result ≡ eqb self.code (code format) }
+    {
+        self.code == format.code()
+    }
+}
+
 pub const DEEPEST: usize = 6;
 
 pub const MOST_ITEMS: usize = 128;
 
 // The byte at a position, 0 past the end.
-pub fn byte(msg: &[u8], at: usize) -> usize
-    ensures value { result ≡ get_or msg.now at 0 }
-    ensures upper_bound { result < 256 }
+pub fn byte(msg: &[u8], at: usize) -> u8
+    ensures { result ≡ get_or msg.now at 0 }
 {
-    if at < msg.len() { wide(msg[at]) } else { 0 }
+    msg.get(at).copied().unwrap_or(0)
 }
 
 // The number that n bytes stand for, high byte first.
@@ -40,14 +50,14 @@ pub fn number(msg: &[u8], at: usize, n: usize) -> usize
     ensures upper_bound { result < 256 ^ n }
 {
     let mut v = 0;
-    let mut i = 0;
-    while i < n {
-        v = v * 256 + byte(msg, at + i);
-        i += 1;
+    for i in 0..n {
+        v = v * 256 + usize::from(byte(msg, at + i));
     }
     v
 }
 
+// Past the end a head of no format, `no_head` in specs/Heads.antt, which is refused as cut short.
+#[tactic(auto, unfolding(crate::specs::Heads::head_at))]
 pub fn head_at(msg: &[u8], at: usize) -> Head
     ensures value { result ≡ head_at msg.now at }
     ensures many_bound { (result.many < 2 ^ 24) × (result.body < 2 ^ 63 + 4) }
@@ -60,7 +70,7 @@ pub fn head_at(msg: &[u8], at: usize) -> Head
             many: 0,
         };
     }
-    let format = byte(msg, at);
+    let format = usize::from(byte(msg, at));
     let lengths = format % 4;
     let many = number(msg, at + 1, lengths);
     Head {
@@ -71,19 +81,19 @@ pub fn head_at(msg: &[u8], at: usize) -> Head
     }
 }
 
-// What is refused at an item: the lowest that applies, or 0.
-pub fn refusal_at(msg: &[u8], at: usize, h: Head, left: usize, count: usize) -> u8
+// What is refused at an item: the lowest that applies.
+#[tactic(auto, unfolding(crate::specs::Heads::refusal_of, crate::specs::Heads::lowest))]
+pub fn refusal_at(msg: &[u8], at: usize, h: Head, left: usize, count: usize) -> Result<(), Refusal>
     requires { (h.many < 2 ^ 24) × (h.body < 2 ^ 63 + 4) }
-    ensures { result ≡ refusal_of msg.now at h left count }
+    ensures { answer result ≡ refusal_of msg.now at h left count }
 {
     let n = msg.len();
     let size = size_of(h.code);
-    let nested = h.code == LIST;
-    let cut = (n <= at) | ((n < h.body) | (!nested & (n < h.body + h.many)));
-    let bad = (h.lengths == 0) | uneven(h.many, size);
-    let e = first(MOST_ITEMS <= count, 24, 0);
-    let d = first(nested & (left == 0), 23, e);
-    let c = first(bad, 22, d);
-    let b = first(size == 0, 21, c);
-    first(cut, 20, b)
+    let list = h.is(Format::List);
+    let cut = n <= at || n < h.body || !list && n < h.body + h.many;
+    when(cut, Refusal::CutShort)?;
+    when(size == 0, Refusal::UnknownCode)?;
+    when(h.lengths == 0 || uneven(h.many, size), Refusal::BadLength)?;
+    when(list && left == 0, Refusal::TooDeep)?;
+    when(MOST_ITEMS <= count, Refusal::TooManyItems)
 }

@@ -13,12 +13,11 @@ use Rattle.rules.specs.Sound.{sound_tool}
 use Rattle.rules.specs.Reports.{no_reports}
 use Rattle.rules.proofs.SoundTools.{setup_sound}
 use Rattle.image.specs.Image.{byte_at}
-use Rattle.logs.specs.declared.head.Stop.{Stop}
-use Rattle.logs.specs.Layout.{head, read_head}
+use Rattle.logs.specs.Layout.{Reading, head, read_head}
 use Rattle.logs.specs.Judging.{ended, untouched, judging, judge}
 use Rattle.logs.proofs.Heads.{not_refused}
 
-module _ (m : List ℕ) (s : Stop) (e : s ≡ read_head head 0 m) where
+module _ (m : List ℕ) (s : Reading) (e : s ≡ read_head head 0 m) where
   pub refused : s.refusal ≢ 0 → (t : Tool) (r : Reports) → t ≡ (set_up 0 0).tool → r ≡ no_reports
       → ended s.refusal 0 s.at (record { tool = t; answer = 0; reports = r }) ≡ judge m
   unfolding judge set_up

@@ -76,11 +76,21 @@ module _ (m : List ℕ) (at from end : ℕ) (f : from ≡ at + input_size (drop 
   unfolding entry_size
   in_order = omega arith
 
-  pub shows_is : (o : Outcome) (same : Bool) → same ≡ same_list (take (end - from) (drop from m)) (shown o.answer (list_of o.reports))
-      → same ≡ shows (drop at m) o
-  unfolding shows shown_in entry_size
-  shows_is o same q =
+  pub shown_is : (shown : List ℕ) (same : Bool) → same ≡ same_list (take (end - from) (drop from m)) shown
+      → same ≡ same_list (shown_in (drop at m)) shown
+  unfolding shown_in entry_size
+  shown_is shown same q =
       let n = input_size (drop at m) in
       let d : drop n (drop at m) ≡ drop from m = drop-drop n at m ∙ ap (λ k. drop k m) (sym f) in
       let z : end - from ≡ answer_size (drop n (drop at m)) = omega arith in
       q ∙ rw (z, d)
+
+  pub input_within : at + input_size (drop at m) ≤ end
+  unfolding entry_size
+  input_within = omega arith
+
+-- whether an entry shows what document 01 gave
+pub shows_is : (l : List ℕ) (o x : Outcome) (same : Bool) → same ≡ same_list (shown_in l) (shown o.answer (list_of o.reports)) → o ≡ x
+    → same ≡ shows l x
+unfolding shows
+shows_is l o x same q e = q ∙ ap (λ y. same_list (shown_in l) (shown y.answer (list_of y.reports))) e

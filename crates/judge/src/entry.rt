@@ -1,10 +1,11 @@
-// One entry, judged.
+// One entry: what document 01 gives for its input, and whether it shows that.
 ghost use Rattle.std.specs.Prelude.{◌≡◌, true, ◌+◌, ◌≤◌, length, drop};
+ghost use Rattle.lists.specs.Lists.{same_list};
 ghost use Rattle.rules.specs.Sound.{sound_tool};
 ghost use Rattle.rules.specs.Outcome.{outcome};
-ghost use Rattle.image.specs.Image.{tool_from};
-ghost use Rattle.logs.specs.Layout.{input_size, input_in, entry_size};
-ghost use Rattle.logs.specs.Judging.{shows};
+ghost use Rattle.image.specs.Image.{tool_from, reports_from};
+ghost use Rattle.logs.specs.Layout.{input_size, input_in, entry_size, shown_in};
+ghost use Rattle.logs.specs.Written.{shown, list_of};
 ghost use Rattle.judge.specs.Held.{gave};
 
 use image::layout::*;
@@ -12,16 +13,12 @@ use logs::bytes::*;
 use logs::shown::*;
 use logs::sizes::*;
 use machine::step::step_sound;
+use records::refusal::answer;
+use rules::input::Input;
 
-// Whether an entry shows what document 01 gives, and the answer that it gives.
-#[derive(Clone, Copy)]
-pub struct Given {
-    pub same: bool,
-    pub answer: u8,
-}
-
-// The input of the entry at a position, to document 01's machine.
-fn step_entry(
+// The input of the entry at a position, to document 01's machine: the answer that it gives.
+// The answer is a number, as `gave` and the entry have it.
+pub fn step_entry(
     log: &[u8],
     at: usize,
     tool: &mut [u8; TOOL_BYTES],
@@ -37,36 +34,24 @@ fn step_entry(
     let value = byte(log, at + 2);
     let name = at + 4;
     let codes = name + byte(log, at + 3);
-    let answer = codes + codes_size(number);
-    step_sound(
-        tool,
-        reports,
-        number as u32,
-        port as u32,
-        value as u32,
-        &log[name..codes],
-        &log[codes..answer],
-    )
+    let end = codes + codes_size(number);
+    let input = Input {
+        number: number as u32,
+        port: port as u32,
+        value: value as u32,
+        name: &log[name..codes],
+        codes: &log[codes..end],
+    };
+    answer(step_sound(tool, reports, input))
 }
 
-// The entry at a position, which is read to its end before.
-pub fn judge_entry(
-    log: &[u8],
-    at: usize,
-    end: usize,
-    tool: &mut [u8; TOOL_BYTES],
-    reports: &mut [u8; REPORTS_BYTES],
-) -> Given
-    requires tool_value { sound_tool (tool_from tool.old) ≡ true }
+// Whether the entry at a position, which the log has to its end, shows an answer and a report list.
+pub fn shows(log: &[u8], at: usize, end: usize, answer: u8, reports: &[u8; REPORTS_BYTES]) -> bool
     requires end_value { end ≡ at + entry_size (drop at log.now) }
     requires end_in_bounds { end ≤ length log.now }
-    ensures answer_after { gave tool.new reports.new result.answer
-        ≡ outcome (tool_from tool.old) (input_in (drop at log.now)) }
-    ensures same_value { result.same ≡ shows (drop at log.now)
-        (outcome (tool_from tool.old) (input_in (drop at log.now))) }
+    requires reports_bound { (reports_from reports.now).count ≤ 10 }
+    ensures { result ≡ same_list (shown_in (drop at log.now)) (shown answer (list_of (reports_from reports.now))) }
 {
     let from = at + input_size(log, at);
-    let answer = step_entry(log, at, tool, reports);
-    let same = is_shown(&log[from..end], answer, reports);
-    Given { same, answer }
+    is_shown(&log[from..end], answer, reports)
 }

@@ -1,24 +1,19 @@
 -- A block holds the queue that follows when one is added, one is started, one goes, or those go that aren't started.
-use Prim.Native.Nat.{ℕ, zero, suc, ◌+◌, ◌-◌, ◌<◌, ◌≤◌}
+use Prim.Native.Nat.{ℕ, ◌+◌, ◌-◌, ◌<◌, ◌≤◌}
 use native.Mathlib.Omega.{arith}
 use mathlib.Core.Path.{◌≡◌, ap, sym, ◌∙◌}
-use mathlib.Core.Bool.{Bool, true, false, cond}
 use mathlib.Core.List.{List, [], ◌∷◌}
-use lib.ListN.{length, get_or, set, take, length-set, length-append}
-use lib.Dec.{ltb}
-use Rattle.lists.specs.Lists.{any, where_is, fill, shifted, without}
-use borrow.Author.Tests.{ltb-true, lt-ltb}
-use Rattle.lists.proofs.Bools.{same_test}
-use Rattle.lists.proofs.Tests.{any_here, where_holds}
+use lib.ListN.{length, get_or, set, length-set, length-take, length-append}
+use Rattle.lists.specs.Lists.{fill, shifted, without}
 use Rattle.lists.proofs.Tables.{getD_fill, set_fill, push_fill, shift_fill, length_without}
 use Rattle.image.proofs.Table.{table_same}
 use Rattle.records.specs.declared.name.Name.{Name}
 use Rattle.follow.specs.Follow.{KeptOutside}
 use Rattle.queue.specs.declared.request.Request.{Request}
-use Rattle.queue.specs.Requests.{no_request, new_request, begun, is_started, only, added, started, all_dropped}
-use Rattle.queue.proofs.Lines.{some_stands}
+use Rattle.queue.specs.Requests.{no_request, new_request, begun, is_started, added, started, all_dropped}
 use Rattle.line.specs.Bytes.{waiting_in, request_start, queue_from, queue_of, Holds}
 use Rattle.line.proofs.Laid.{queue_long}
+use Rattle.line.proofs.Left.{few_only}
 use Rattle.line.proofs.Written.{request_same}
 
 -- ── What is kept ──
@@ -37,22 +32,8 @@ pub waiting_stays : {e : ℕ} {m n : List ℕ} → KeptOutside 901 e m n → wai
 waiting_stays k = k.before 900 (omega arith)
 
 -- ── The queue of a block ──
-shorter : {A : Type 0} (n : ℕ) (l : List A) → length (take n l) ≤ length l
-shorter zero l = omega arith
-shorter (suc n) [] = omega arith
-shorter (suc n) (x ∷ l) = let e = shorter n l in omega arith
-
 pub few_held : (m : List ℕ) → length (queue_of m) ≤ 16
-few_held m = let a = shorter (waiting_in m) (queue_from m) in let b = queue_long m in omega arith
-
-few_only : (f : Request → Bool) (q : List Request) → length (only f q) ≤ length q
-unfolding only
-few_only f [] = omega arith
-few_only f (r ∷ q) = go (f r) (few_only f q)
-  where
-    go : (w : Bool) → length (only f q) ≤ length q → length (cond w (r ∷ only f q) (only f q)) ≤ suc (length q)
-    go true e = omega arith
-    go false e = omega arith
+few_held m = let a = length-take (waiting_in m) (queue_from m) in let b = queue_long m in omega arith
 
 pub few_left : (m : List ℕ) → length (all_dropped (queue_of m)) ≤ 16
 few_left m = let a = few_only is_started (queue_of m) in let b = few_held m in omega arith
@@ -91,14 +72,3 @@ holds_begun m n k h l w e =
       queue = e ∙ ap (λ r. set (queue_from m) k (begun r)) same ∙ ap (λ t. set t k (begun (get_or q k no_request))) h.queue
           ∙ set_fill 16 no_request q k (begun (get_or q k no_request)) l;
     }
-
--- some request passes a test where the first that does stands before the end
-some_is : (f : Request → Bool) (q : List Request) → ltb (where_is f q) (length q) ≡ any f q
-some_is f q =
-    same_test _ _
-    (λ e. let b = ltb-true _ (length q) e in any_here f q (where_is f q) no_request b (where_holds f q no_request b))
-    (λ e. lt-ltb _ _ (some_stands f no_request q e))
-
-pub some_told : (m : List ℕ) → Holds m (queue_of m) → (f : Request → Bool) (k n : ℕ) → k ≡ where_is f (queue_of m) → n ≡ waiting_in m
-    → ltb k n ≡ any f (queue_of m)
-some_told m h f k n a b = rw (a, b ∙ h.waiting) (some_is f (queue_of m))

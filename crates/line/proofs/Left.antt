@@ -6,6 +6,7 @@ use mathlib.Core.Bool.{Bool, true, false, cond}
 use mathlib.Core.List.{List, [], ◌∷◌, ◌++◌}
 use lib.ListN.{length, get_or, take, drop, length-append, length-drop}
 use lib.Seq.{take-suc, drop-cons, length-take-le}
+use Rattle.std.proofs.Common.{append_assoc}
 use Rattle.lists.specs.Lists.{fill, shifted, without}
 use Rattle.lists.proofs.Tables.{getD_fill, shift_fill}
 use Rattle.queue.specs.declared.request.Request.{Request}
@@ -22,13 +23,18 @@ module _ {A : Type 0} where
   gone_middle [] r x = refl
   gone_middle (y ∷ l) r x = ap (λ t. y ∷ t) (gone_middle l r x)
 
-  append_again : (l r : List A) (x : A) → (l ++ (x ∷ [])) ++ r ≡ l ++ (x ∷ r)
-  append_again [] r x = refl
-  append_again (y ∷ l) r x = ap (λ t. y ∷ t) (append_again l r x)
-
 -- the first k as they were, and of the rest those that are started
 abbrev pub left_of : List Request → ℕ → List Request
 left_of l k = take k l ++ only is_started (drop k l)
+
+pub few_only : (f : Request → Bool) (q : List Request) → length (only f q) ≤ length q
+unfolding only
+few_only f [] = omega arith
+few_only f (r ∷ q) = go (f r) (few_only f q)
+  where
+    go : (w : Bool) → length (only f q) ≤ length q → length (cond w (r ∷ only f q) (only f q)) ≤ suc (length q)
+    go true e = omega arith
+    go false e = omega arith
 
 module _ (l : List Request) (few : length l ≤ 16) (k : ℕ) (b : k < length l) where
   abbrev x : Request
@@ -41,22 +47,13 @@ module _ (l : List Request) (few : length l ≤ 16) (k : ℕ) (b : k < length l)
   before = length-take-le k l (omega arith)
 
   spelt : left_of l (suc k) ≡ take k l ++ (x ∷ rest)
-  spelt = rw (take-suc l k no_request b) (append_again (take k l) rest x)
-
-  fewer : (q : List Request) → length (only is_started q) ≤ length q
-  unfolding only
-  fewer [] = omega arith
-  fewer (r ∷ q) = let e = fewer q in go (is_started r) e
-    where
-      go : (w : Bool) → length (only is_started q) ≤ length q → length (cond w (r ∷ only is_started q) (only is_started q)) ≤ suc (length q)
-      go true e = omega arith
-      go false e = omega arith
+  spelt = rw (take-suc l k no_request b, append_assoc)
 
   long : length (take k l ++ (x ∷ rest)) ≤ 16
   long =
       let a = length-append (take k l) (x ∷ rest) in
       let c = before in
-      let d = fewer (drop (suc k) l) in
+      let d = few_only is_started (drop (suc k) l) in
       let e : length (drop (suc k) l) ≡ length l - suc k = length-drop (suc k) l in
       omega arith
 

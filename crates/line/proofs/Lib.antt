@@ -1,5 +1,4 @@
 pub mod Laid
-pub mod Passing
 pub mod Written
 pub mod Named
 pub mod Zero

@@ -50,7 +50,7 @@ module _ (m : List ℕ) (n : ℕ) (few : n ≤ 16) where
   start = 901 + 18 * n
 
   abbrev bytes : ℕ
-  bytes = 288 - 18 * n
+  bytes = 18 * (16 - n)
 
   there : every zero_request (drop n (queue_from m)) ≡ true → every is_zero (bytes_from m start bytes) ≡ true
   there e = every_of is_zero (λ k. byte_at m (start + k)) bytes (λ k h. at k h)

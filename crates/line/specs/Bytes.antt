@@ -1,11 +1,9 @@
 -- The queue in the second block of a tool, and what is found in it.
-use Rattle.std.specs.Prelude.{ℕ, ◌+◌, ◌*◌, ◌≡◌, cond, List, [], ◌∷◌, ◌++◌, length, take}
-use Rattle.lists.specs.Lists.{where_is, fill}
-use Rattle.records.specs.declared.name.Name.{Name}
+use Rattle.std.specs.Prelude.{ℕ, ◌+◌, ◌*◌, ◌≡◌, List, [], ◌∷◌, ◌++◌, length, take}
+use Rattle.lists.specs.Lists.{fill}
 use Rattle.image.specs.Image.{table, byte_at, name_from}
 use Rattle.queue.specs.declared.request.Request.{Request}
-use Rattle.queue.specs.Requests.{no_request, is_of, waits_of, started_of, started_to}
-use Rattle.line.specs.declared.find.Found.{Found}
+use Rattle.queue.specs.Requests.{no_request}
 
 -- Byte 900 says how many requests are queued; then come 16 of 18 bytes each: the name, the port, whether it is started.
 abbrev pub waiting_in : List ℕ → ℕ
@@ -19,25 +17,6 @@ request_from m o = record { name = name_from m o; port = byte_at m (o + 16); sta
 
 unfoldable pub queue_from : List ℕ → List Request
 queue_from m = table 16 (λ k. request_from m (request_start k))
-
--- where the request of a name stands, the same if it waits and if it is started, and the one that is started to a port; past the end where
--- there is none
-unfoldable pub found_in : List Request → Name → ℕ → Found
-found_in q n p = record {
-  of = where_is (is_of n) q;
-  waits = where_is (waits_of n) q;
-  runs = where_is (started_of n) q;
-  to = where_is (started_to p) q;
-}
-
--- one request more, at position k, before those passed
-abbrev pub gathered : Name → ℕ → ℕ → Request → Found → Found
-gathered n p k r f = record {
-  of = cond (is_of n r) k f.of;
-  waits = cond (waits_of n r) k f.waits;
-  runs = cond (started_of n r) k f.runs;
-  to = cond (started_to p r) k f.to;
-}
 
 -- The requests of a block; and a block holds a queue: so many requests are used, with none after them.
 abbrev pub queue_of : List ℕ → List Request

@@ -1,5 +1,5 @@
 -- Soundness of the queue as the code tests it: request by request, and every two.
-use Rattle.std.specs.Prelude.{ℕ, Bool, ◌&&◌, List, length, take, drop, leb}
+use Rattle.std.specs.Prelude.{ℕ, Bool, ◌&&◌, ◌≡◌, List, Option, length, position, take, drop, leb}
 use Rattle.lists.specs.Lists.{every, every_two}
 use Rattle.rules.specs.State.{State}
 use Rattle.queue.specs.declared.request.Request.{Request}
@@ -15,3 +15,7 @@ apart a b = other_carrier a b && alone_there a b
 unfoldable pub sound_line : State → ℕ → List Request → Bool
 sound_line s n q =
     leb n 16 && (every zero_request (drop n q) && every (fits_in s) (take n q) && every_two apart (take n q))
+
+-- k is where the first request of q stands that passes a test; the test is known by what its calls answer.
+abbrev pub FirstAt : (Request → Bool → Type 0) → List Request → Option ℕ → Type 0
+FirstAt answers q k = (f : Request → Bool) → ((r : Request) (b : Bool) → answers r b → b ≡ f r) → k ≡ position f q

@@ -9,7 +9,6 @@ use crate::read::{request_at, waiting};
 use crate::write::{drop_all, put_request, put_waiting, take_out};
 use image::layout::TOOL_BYTES;
 use queue::request::*;
-use records::choose::wide;
 use records::name::Name;
 
 // A request is put last.
@@ -20,12 +19,12 @@ pub fn add(m: &mut [u8; TOOL_BYTES], name: Name, port: u8)
     ensures kept_outside { KeptOutside 900 1189 m.old m.new }
 {
     let n = waiting(m);
-    let r = Request {
+    let last = Request {
         name,
         port,
         started: 0,
     };
-    put_request(m, wide(n), r);
+    put_request(m, usize::from(n), last);
     put_waiting(m, n + 1);
 }
 
@@ -36,14 +35,9 @@ pub fn begin(m: &mut [u8; TOOL_BYTES], k: usize)
     ensures holds_2 { Holds m.new (started k (queue_of m.old)) }
     ensures kept_outside { KeptOutside 900 1189 m.old m.new }
 {
-    let r = request_at(m, k);
-    let name = r.name;
-    let b = Request {
-        name,
-        port: r.port,
-        started: 1,
-    };
-    put_request(m, k, b);
+    let mut r = request_at(m, k);
+    r.started = 1;
+    put_request(m, k, r);
 }
 
 // The request at k goes; past the end, none does.
@@ -53,7 +47,7 @@ pub fn remove(m: &mut [u8; TOOL_BYTES], k: usize)
     ensures kept_outside { KeptOutside 900 1189 m.old m.new }
 {
     let n = waiting(m);
-    if k < wide(n) {
+    if k < usize::from(n) {
         take_out(m, k);
         put_waiting(m, n - 1);
     }
@@ -66,6 +60,6 @@ pub fn drop_waiting(m: &mut [u8; TOOL_BYTES])
     ensures kept_outside { KeptOutside 900 1189 m.old m.new }
 {
     let n = waiting(m);
-    let left = drop_all(m, wide(n));
+    let left = drop_all(m, usize::from(n));
     put_waiting(m, left as u8);
 }

@@ -19,9 +19,8 @@ pub fn waiting(m: &[u8; TOOL_BYTES]) -> u8
 pub fn no_request() -> Request
     ensures { result ≡ no_request }
 {
-    let name = Name::none();
     Request {
-        name,
+        name: Name::none(),
         port: 0,
         started: 0,
     }
@@ -31,14 +30,14 @@ fn request_from(m: &[u8; TOOL_BYTES], o: usize) -> Request
     requires { o + 18 ≤ 1891 }
     ensures { result ≡ request_from m.now o }
 {
-    let name = name_from(m, o);
     Request {
-        name,
+        name: name_from(m, o),
         port: m[o + REQUEST_PORT_OFFSET],
         started: m[o + STARTED_OFFSET],
     }
 }
 
+#[tactic(auto, using(crate::proofs::Laid::request_is, crate::proofs::Laid::request_past))]
 pub fn request_at(m: &[u8; TOOL_BYTES], k: usize) -> Request
     ensures { result ≡ get_or (queue_from m.now) k no_request }
 {

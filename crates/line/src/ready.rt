@@ -7,20 +7,18 @@ ghost use Rattle.image.specs.Image.{tool_from};
 ghost use Rattle.queue.specs.Requests.{is_ready};
 ghost use Rattle.line.specs.Bytes.{queue_from};
 
-use crate::read::request_at;
+use crate::find::position_of;
 use crate::sound::{carrier_named, may_leave};
 use follow::blocks::BLOCKS;
 use image::layout::TOOL_BYTES;
 use queue::request::*;
-use records::choose::either;
 
 // For this port, and its carrier is closed and not in access.
 fn is_ready(base: &[u8; TOOL_BYTES], r: Request, port: u8) -> bool
     requires { Held (tool_from base.now) }
     ensures { result ≡ is_ready (state_of (tool_from base.now)) port r }
 {
-    let c = carrier_named(base, r.name);
-    (r.port == port) & may_leave(c)
+    r.port == port && may_leave(carrier_named(base, r.name))
 }
 
 // Where the oldest of the first n stands that is ready for a port; n where there is none.
@@ -30,12 +28,5 @@ pub fn ready_stands(m: &[[u8; TOOL_BYTES]; BLOCKS], n: usize, port: u8) -> usize
     ensures { result ≡ where_is (is_ready (state_of (tool_from (get_or m.now 0 []))) port)
         (take n (queue_from (get_or m.now 1 []))) }
 {
-    let mut stands = n;
-    let mut k = n;
-    while 0 < k {
-        k -= 1;
-        let r = request_at(&m[1], k);
-        stands = either(is_ready(&m[0], r, port), k, stands);
-    }
-    stands
+    position_of(&m[1], n, |r| is_ready(&m[0], r, port)).unwrap_or(n)
 }

@@ -16,10 +16,8 @@ fn request_bytes(r: Request) -> [u8; REQUEST_BYTES]
     ensures value { result ≡ request_bytes r }
     ensures bytes_len { length r.name.bytes ≡ 16 }
 {
-    let called = r.name;
-    let name = called.bytes;
     let mut b = [0; REQUEST_BYTES];
-    put(&mut b, 0, &name);
+    put(&mut b, 0, &r.name.bytes);
     b[REQUEST_PORT_OFFSET] = r.port;
     b[STARTED_OFFSET] = r.started;
     b
@@ -30,16 +28,14 @@ pub fn put_request(m: &mut [u8; TOOL_BYTES], k: usize, r: Request)
     ensures m_after { queue_from m.new ≡ set (queue_from m.old) k r }
     ensures kept_outside { KeptOutside 901 1189 m.old m.new }
 {
-    let b = request_bytes(r);
-    put(m, QUEUE_START + REQUEST_BYTES * k, &b);
+    put(m, QUEUE_START + REQUEST_BYTES * k, &request_bytes(r));
 }
 
 pub fn put_waiting(m: &mut [u8; TOOL_BYTES], n: u8)
     ensures m_after { waiting_in m.new ≡ n }
     ensures kept_outside { KeptOutside 900 901 m.old m.new }
 {
-    let b = [n];
-    put(m, WAITING_OFFSET, &b);
+    put(m, WAITING_OFFSET, &[n]);
 }
 
 // The request at k goes, and those after it move up.
@@ -60,8 +56,7 @@ fn drop_at(m: &mut [u8; TOOL_BYTES], k: usize, n: usize) -> usize
     ensures value { result ≡ cond (is_started (get_or (queue_from m.old) k no_request)) n (n - 1) }
     ensures kept_outside { KeptOutside 901 1189 m.old m.new }
 {
-    let r = request_at(m, k);
-    if r.started == 1 {
+    if request_at(m, k).started == 1 {
         n
     } else {
         take_out(m, k);
@@ -78,9 +73,7 @@ pub fn drop_all(m: &mut [u8; TOOL_BYTES], n: usize) -> usize
     ensures kept_outside { KeptOutside 901 1189 m.old m.new }
 {
     let mut left = n;
-    let mut k = n;
-    while 0 < k {
-        k -= 1;
+    for k in (0..n).rev() {
         left = drop_at(m, k, left);
     }
     left

@@ -13,8 +13,7 @@ use Rattle.lists.proofs.Bools.{and_l, and_r}
 use Rattle.rules.specs.declared.tool.Setup.{Setup}
 use Rattle.rules.specs.State.{in_tool, no_tool, start, set_up}
 use Rattle.image.specs.Image.{byte_at}
-use Rattle.logs.specs.declared.head.Stop.{Stop}
-use Rattle.logs.specs.Layout.{Part, exactly, head, read_head}
+use Rattle.logs.specs.Layout.{Part, Reading, exactly, head, read_head}
 use Rattle.logs.specs.Written.{head_of}
 
 abbrev pub good_in : Part → ℕ → Bool
@@ -29,7 +28,7 @@ abbrev pub Good : List Part → List ℕ → ℕ → Type 0
 Good ps m k = (j : ℕ) → j < k → good_in (part_at ps j) (byte_at m j) ≡ true
 
 -- All of the head is there and good; or the byte at k is wrong; or the file ends at k.
-pub data HeadRead (ps : List Part) (m : List ℕ) (at : ℕ) (s : Stop) : Type 0 where
+pub data HeadRead (ps : List Part) (m : List ℕ) (at : ℕ) (s : Reading) : Type 0 where
   good : length ps ≤ length m → Good ps m (length ps) → s.refusal ≡ 0 → HeadRead ps m at s
   wrong : (k : ℕ) → s.at ≡ at + k → k < length ps → k < length m → Good ps m k → good_in (part_at ps k) (byte_at m k) ≡ false
       → s.refusal ≡ (part_at ps k).refusal → HeadRead ps m at s
@@ -42,7 +41,7 @@ one_more : (p : Part) (ps : List Part) (b : ℕ) (m : List ℕ) (k : ℕ) → go
 one_more p ps b m k g h zero l = g
 one_more p ps b m k g h (suc j) l = h j (le_of_suc-le-suc l)
 
-later : (p : Part) (ps : List Part) (b : ℕ) (m : List ℕ) (at : ℕ) (s : Stop) → good_in p b ≡ true → HeadRead ps m (suc at) s
+later : (p : Part) (ps : List Part) (b : ℕ) (m : List ℕ) (at : ℕ) (s : Reading) → good_in p b ≡ true → HeadRead ps m (suc at) s
     → HeadRead (p ∷ ps) (b ∷ m) at s
 later p ps b m at s g (good l a z) = good (suc-le-suc l) (one_more p ps b m (length ps) g a) z
 later p ps b m at s g (wrong k w l n a f r) =
@@ -102,6 +101,15 @@ refuses (suc (suc (suc (suc zero)))) h = omega arith
 refuses (suc (suc (suc (suc (suc zero))))) h = omega arith
 refuses (suc (suc (suc (suc (suc (suc zero)))))) h = omega arith
 refuses (suc (suc (suc (suc (suc (suc (suc k))))))) h = absurd (omega arith)
+
+-- so is a head that is refused
+pub refused_from : (m : List ℕ) → ((read_head head 0 m).refusal ≡ 0 → ⊥) → 27 ≤ (read_head head 0 m).refusal
+refused_from m = go (head_read head m 0)
+  where
+    go : HeadRead head m 0 (read_head head 0 m) → ((read_head head 0 m).refusal ≡ 0 → ⊥) → 27 ≤ (read_head head 0 m).refusal
+    go (good l g z) n = absurd (n z)
+    go (wrong k w l x a f r) n = let h = refuses k l in omega arith
+    go (short k w l e a r) n = omega arith
 
 pub not_refused : (m : List ℕ) → (read_head head 0 m).refusal ≡ 0 → GoodHead m
 not_refused m = go (head_read head m 0)

@@ -5,5 +5,6 @@ pub mod Back
 pub mod Judged
 pub mod Heads
 pub mod InPlace
-pub mod Told
+pub mod Texts
+pub mod After
 pub mod Compared

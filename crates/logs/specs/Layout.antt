@@ -3,7 +3,6 @@ use Rattle.std.specs.Prelude.{ℕ, zero, suc, ◌+◌, Bool, cond, List, [], ◌
 use Rattle.lists.specs.Lists.{between}
 use Rattle.rules.specs.Seen.{Input, input_of}
 use Rattle.image.specs.Image.{byte_at}
-use Rattle.logs.specs.declared.head.Stop.{Stop}
 
 -- ── The head ──
 -- A byte of the head: the least and the greatest that it may be, and what any other is refused with.
@@ -24,8 +23,13 @@ any_from least greatest = record { least = least; greatest = greatest; refusal =
 abbrev pub head : List Part
 head = exactly 0x43 ∷ exactly 0x4D ∷ exactly 0x54 ∷ exactly 0 ∷ exactly 1 ∷ any_from 1 4 ∷ any_from 0 16 ∷ []
 
--- In file order, byte by byte: what is refused, or 0, and where. 29: the file is cut short.
-unfoldable pub read_head : List Part → ℕ → List ℕ → Stop
+-- what is refused, or 0, and where
+pub record Reading : Type 0 where
+  pub refusal : ℕ
+  pub at : ℕ
+
+-- In file order, byte by byte. 29: the file is cut short.
+unfoldable pub read_head : List Part → ℕ → List ℕ → Reading
 read_head [] at rest = record { refusal = 0; at = at }
 read_head (p ∷ ps) at [] = record { refusal = 29; at = at }
 read_head (p ∷ ps) at (b ∷ rest) =

@@ -1,90 +1,58 @@
 // What an entry shows, held against a report list.
-ghost use Rattle.std.specs.Prelude.{◌≡◌, true, false, ◌+◌, ◌^◌, ◌≤◌, ◌<◌, eqb};
-ghost use Rattle.lists.specs.Lists.{where_is, same_list};
-ghost use Rattle.image.specs.Image.{byte_at, name_from, report_from, reports_from};
-ghost use Rattle.logs.specs.Layout.{on_name};
-ghost use Rattle.logs.specs.Written.{shown, list_of};
-ghost use Rattle.logs.specs.InPlace.{told_at};
+ghost use Rattle.std.specs.Prelude.{◌≡◌, ◌+◌, ◌≤◌, length};
+ghost use Rattle.std.specs.Option.{option_map};
+ghost use Rattle.lists.specs.Lists.{same_list};
+ghost use Rattle.image.specs.Image.{name_from, report_from, reports_from};
+ghost use Rattle.logs.specs.Written.{text_of, report, shown, list_of};
+ghost use Rattle.logs.specs.InPlace.{after};
 
-use crate::bytes::*;
-use crate::sizes::*;
+use crate::sizes::on_name;
 use image::layout::*;
-use records::choose::*;
 use records::sizes::*;
 
-// Whether a report stands at a position, and where it ends.
-#[derive(Clone, Copy)]
-pub struct Told {
-    pub same: bool,
-    pub at: usize,
-}
-
-// How long the name is that begins at a position of the report list: up to its first zero.
-fn text_length(o: &[u8; REPORTS_BYTES], from: usize) -> usize
+// The name that begins at a position of the report list: its bytes up to the first zero.
+fn text(o: &[u8; REPORTS_BYTES], from: usize) -> &[u8]
     requires { from + 16 ≤ 201 }
-    ensures value { result ≡ where_is (λ b. eqb b 0) (name_from o.now from).bytes }
-    ensures upper_bound { result ≤ 16 }
+    ensures value { result.now ≡ text_of (name_from o.now from) }
+    ensures upper_bound { length result.now ≤ 16 }
 {
-    let mut n = 0;
-    let mut i = NAME_BYTES;
-    while 0 < i {
-        i -= 1;
-        n = either(o[from + i] == 0, 0, n + 1);
-    }
-    n
+    let bytes = &o[from..from + NAME_BYTES];
+    let n = bytes
+        .iter()
+        .position(|byte| *byte == 0)
+        .unwrap_or(NAME_BYTES);
+    &bytes[..n]
 }
 
-// A report on a port, or one that is read as such: model, port, old, new.
-fn on_port_at(l: &[u8], at: usize, o: &[u8; REPORTS_BYTES], from: usize) -> Told
-    requires from_bound { (from + 20 ≤ 201) × (at < 2 ^ 63) }
-    requires from_value { on_name (byte_at o.now from) ≡ false }
-    ensures value { result ≡ told_at l.now at (report_from o.now from) }
-    ensures at_bound { result.at ≤ at + 20 }
+// What is left of bytes that begin with the report at `from` of the report list; none where they begin with anything else.
+fn after_report<'a>(l: &'a [u8], o: &[u8; REPORTS_BYTES], from: usize) -> Option<&'a [u8]>
+    requires { from + 20 ≤ 201 }
+    ensures { option_map (λ rest. rest.now) result ≡ after l.now (report (report_from o.now from)) }
 {
-    let model = byte_is(l, at, o[from]);
-    let port = byte_is(l, at + 1, o[from + SUBJECT_PORT_OFFSET]);
-    let old = byte_is(l, at + 2, o[from + OLD_OFFSET]);
-    let new = byte_is(l, at + 3, o[from + NEW_OFFSET]);
-    Told {
-        same: model & (port & (old & new)),
-        at: at + 4,
-    }
-}
-
-// A report on a name: model, name length, name, old, new.
-fn on_name_at(l: &[u8], at: usize, o: &[u8; REPORTS_BYTES], from: usize) -> Told
-    requires from_bound { (from + 20 ≤ 201) × (at < 2 ^ 63) }
-    requires from_value { on_name (byte_at o.now from) ≡ true }
-    ensures value { result ≡ told_at l.now at (report_from o.now from) }
-    ensures at_bound { result.at ≤ at + 20 }
-{
-    let name = from + SUBJECT_NAME_OFFSET;
-    let n = text_length(o, name);
-    let to = name + n;
-    let model = byte_is(l, at, o[from]);
-    let long = byte_is(l, at + 1, n as u8);
-    let old = byte_is(l, at + 2 + n, o[from + OLD_OFFSET]);
-    let new = byte_is(l, at + 3 + n, o[from + NEW_OFFSET]);
-    let bytes = &o[..];
-    let same = stands(l, at + 2, &bytes[name..to]);
-    Told {
-        same: model & (long & (same & (old & new))),
-        at: at + 4 + n,
-    }
-}
-
-// The report that begins at `from` of the report list.
-fn told_at(l: &[u8], at: usize, o: &[u8; REPORTS_BYTES], from: usize) -> Told
-    requires { (from + 20 ≤ 201) × (at < 2 ^ 63) }
-    ensures value { result ≡ told_at l.now at (report_from o.now from) }
-    ensures at_bound { result.at ≤ at + 20 }
-{
-    let model = wide(o[from]);
-    if on_name(model) {
-        on_name_at(l, at, o, from)
+    let model = o[from];
+    let old = o[from + OLD_OFFSET];
+    let new = o[from + NEW_OFFSET];
+    if on_name(usize::from(model)) {
+        let name = text(o, from + SUBJECT_NAME_OFFSET);
+        let named = l.strip_prefix(&[model, name.len() as u8])?;
+        let told = named.strip_prefix(name)?;
+        told.strip_prefix(&[old, new])
     } else {
-        on_port_at(l, at, o, from)
+        l.strip_prefix(&[model, o[from + SUBJECT_PORT_OFFSET], old, new])
     }
+}
+
+// And of bytes that begin with an answer, the count of a report list and its reports.
+fn after_shown<'a>(l: &'a [u8], answer: u8, o: &[u8; REPORTS_BYTES]) -> Option<&'a [u8]>
+    requires { (reports_from o.now).count ≤ 10 }
+    ensures { option_map (λ rest. rest.now) result ≡ after l.now (shown answer (list_of (reports_from o.now))) }
+{
+    let count = o[REPORTED_OFFSET];
+    let mut rest = l.strip_prefix(&[answer, count])?;
+    for k in 0..usize::from(count) {
+        rest = after_report(rest, o, REPORTS_START + REPORT_BYTES * k)?;
+    }
+    Some(rest)
 }
 
 // Bytes are an answer, the count of a report list and its reports.
@@ -92,17 +60,5 @@ pub fn is_shown(l: &[u8], answer: u8, o: &[u8; REPORTS_BYTES]) -> bool
     requires { (reports_from o.now).count ≤ 10 }
     ensures { result ≡ same_list l.now (shown answer (list_of (reports_from o.now))) }
 {
-    let answered = byte_is(l, 0, answer);
-    let counted = byte_is(l, 1, o[REPORTED_OFFSET]);
-    let mut same = answered & counted;
-    let mut at = 2;
-    let mut k = 0;
-    let n = wide(o[REPORTED_OFFSET]);
-    while k < n {
-        let t = told_at(l, at, o, REPORTS_START + REPORT_BYTES * k);
-        same = same & t.same;
-        at = t.at;
-        k += 1;
-    }
-    same & (at == l.len())
+    after_shown(l, answer, o).is_some_and(|rest| rest.is_empty())
 }

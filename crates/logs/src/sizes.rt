@@ -3,7 +3,6 @@ ghost use Rattle.std.specs.Prelude.{◌≡◌, ◌+◌, ◌^◌, ◌≤◌, ◌<
 ghost use Rattle.logs.specs.Layout.{codes_size, on_name, input_size, report_size, reports_size, entry_size};
 
 use crate::bytes::*;
-use records::choose::*;
 use records::sizes::*;
 
 const SLOT_MAP: usize = 20;
@@ -20,29 +19,30 @@ pub fn codes_size(number: usize) -> usize
 pub fn on_name(model: usize) -> bool
     ensures { result ≡ on_name model }
 {
-    (5 <= model) & (model <= 7)
+    5 <= model && model <= 7
 }
 
+#[tactic(auto, using(crate::proofs::InPlace::input_size_is))]
 pub fn input_size(log: &[u8], at: usize) -> usize
     requires { at + 3 < 2 ^ 64 }
     ensures value { result ≡ input_size (drop at log.now) }
     ensures upper_bound { result < 285 }
 {
-    let name = byte(log, at + 3);
-    let number = byte(log, at);
-    let codes = codes_size(number);
-    4 + name + codes
+    4 + byte(log, at + 3) + codes_size(byte(log, at))
 }
 
+#[tactic(auto, using(crate::proofs::InPlace::report_named, crate::proofs::InPlace::report_unnamed))]
 fn report_size(log: &[u8], at: usize) -> usize
     requires { at + 1 < 2 ^ 64 }
     ensures value { result ≡ report_size (drop at log.now) }
     ensures upper_bound { result < 260 }
 {
     let model = byte(log, at);
-    let name = byte(log, at + 1);
-    let named = on_name(model);
-    4 + either(named, name, 0)
+    if on_name(model) {
+        4 + byte(log, at + 1)
+    } else {
+        4
+    }
 }
 
 // Where n reports end that begin at a position.
@@ -51,10 +51,8 @@ fn reports_end(log: &[u8], from: usize, n: usize) -> usize
     ensures { result ≡ from + reports_size n (drop from log.now) }
 {
     let mut at = from;
-    let mut more = n;
-    while 0 < more {
+    for _done in 0..n {
         at += report_size(log, at);
-        more -= 1;
     }
     at
 }

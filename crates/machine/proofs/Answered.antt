@@ -1,34 +1,40 @@
 -- What the code puts together is what is to be answered.
 use Prim.Native.Nat.{ℕ}
-use mathlib.Core.Path.{◌≡◌, sym, ◌∙◌}
-use mathlib.Core.Bool.{true}
+use mathlib.Core.Path.{◌≡◌, sym, ap, ◌∙◌}
+use mathlib.Core.Bool.{true, false}
 use mathlib.Core.List.{List}
 use borrow.Author.Tests.{ne_eqb}
+use Rattle.std.specs.Prelude.{Result, Ok, Err}
+use Rattle.records.specs.declared.refusal.Refusal.{Refusal}
+use Rattle.records.specs.Refusals.{number, answer}
 use Rattle.rules.specs.declared.tool.Tool.{Tool}
 use Rattle.rules.specs.declared.row.Seen.{Seen}
 use Rattle.rules.specs.declared.row.Effect.{Effect}
 use Rattle.rules.specs.declared.report.Report.{Report}
-use Rattle.rules.specs.State.{State, state_of, port_at, record_at}
+use Rattle.rules.specs.State.{state_of, port_at, record_at}
 use Rattle.rules.specs.Sound.{sound_tool}
 use Rattle.rules.specs.Held.{Held}
-use Rattle.rules.specs.Seen.{Input, input_of, see}
+use Rattle.rules.specs.Seen.{Input, see}
 use Rattle.rules.specs.Row.{judge, lowest, enact}
+use Rattle.rules.specs.Rows.{row_of}
 use Rattle.rules.specs.Reports.{no_reports, differences}
-use Rattle.rules.specs.Outcome.{refused, row_in, answer_in, state_after, outcome_in}
+use Rattle.rules.specs.Outcome.{refused, row_in, answer_in, state_after, outcome_in, outcome}
 use Rattle.rules.proofs.Lowest.{row_first_is_lowest}
-use Rattle.rules.proofs.Holding.{port_held, record_held, tool_sound}
+use Rattle.rules.proofs.Holding.{port_held, record_held, tool_sound, sound_held}
 use Rattle.rules.proofs.SoundFacts.{few_ports, distinct}
 use Rattle.rules.proofs.Apt.{apt}
+use Rattle.image.specs.Image.{tool_from}
+use Rattle.image.proofs.Laid.{ports_long, carriers_long}
 use Rattle.parts.specs.Apply.{applied}
 use Rattle.parts.specs.Told.{note_all, touched}
 use Rattle.parts.proofs.Bridge.{bridge}
 use Rattle.parts.proofs.Notes.{all_noted}
+use Rattle.machine.proofs.Refused.{never_zero}
 use Rattle.machine.proofs.Differ.{differences_touched}
 
--- what a row sees doesn't depend on the input's number
-pub see_number : (s : State) (n p v : ℕ) (a b : List ℕ) (x : Seen) → x ≡ see s (input_of 0 p v a b) → x ≡ see s (input_of n p v a b)
-unfolding see
-see_number s n p v a b x e = e
+-- a sound tool in the bytes holds what reading it asks
+pub held_in : (m : List ℕ) → sound_tool (tool_from m) ≡ true → Held (tool_from m)
+held_in m h = sound_held (tool_from m) (ports_long m) (carriers_long m) h
 
 abbrev pub told_by : Tool → Effect → List Report
 told_by t e = touched (port_at t e.port) (record_at t e.goes) (record_at t e.changes) e
@@ -59,3 +65,27 @@ refused_is t i d =
       row_first_is_lowest i.number (see (state_of t) i),
       ne_eqb (lowest (row_in (state_of t) i).grounds) 0 (λ e. d (row_first_is_lowest i.number (see (state_of t) i) ∙ e)),
     )
+
+-- what was seen decides the answer and the effect; carrying that out is what the definitions say
+module _ (t : Tool) (i : Input) (x : Seen) (said : Result Unit Refusal) (s : x ≡ see (state_of t) i)
+    (b : answer said ≡ judge (row_of i.number x).grounds) where
+  judged : answer said ≡ judge (row_in (state_of t) i).grounds
+  judged = b ∙ ap (λ y. judge (row_of i.number y).grounds) s
+
+  pub carried : sound_tool t ≡ true → Held t → (u : Unit) → said ≡ Ok u → (e : Effect) → e ≡ (row_of i.number x).effect
+      → record { tool = applied t e; answer = 0; reports = note_all no_reports (told_by t e) } ≡ outcome_in t i
+  carried h k u z e f = rw (f, s) (accepted_is t i h k (sym judged ∙ ap answer z))
+
+  pub nothing_done : (r : Refusal) → said ≡ Err r → refused t (number r) ≡ outcome_in t i
+  nothing_done r z =
+      let e : number r ≡ judge (row_in (state_of t) i).grounds = sym (ap answer z) ∙ judged in
+      rw e (refused_is t i (λ o. never_zero r (e ∙ o)))
+
+-- a sound tool takes the input; another refuses it
+pub sound_outcome : (t : Tool) (i : Input) → sound_tool t ≡ true → outcome_in t i ≡ outcome t i
+unfolding outcome
+sound_outcome t i h = rw h
+
+pub unsound_outcome : (t : Tool) (i : Input) → sound_tool t ≡ false → refused t 1 ≡ outcome t i
+unfolding outcome
+unsound_outcome t i h = rw h

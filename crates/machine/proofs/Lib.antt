@@ -1,3 +1,4 @@
+pub mod Refused
 pub mod Fresh
 pub mod Each
 pub mod Differ

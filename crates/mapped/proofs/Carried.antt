@@ -1,19 +1,21 @@
 -- What the code puts together is what an input gives.
-use Prim.Native.Nat.{ℕ}
+use Prim.Native.Nat.{ℕ, ◌<◌, ◌≤◌}
 use native.Mathlib.Omega.{arith}
 use mathlib.Core.Path.{◌≡◌, refl, ap, sym, ◌∙◌}
-use mathlib.Core.Bool.{Bool, true, cond}
-use mathlib.Core.List.{List}
-use lib.ListN.{length, get_or, take, drop}
-use lib.Seq.{length-take-le}
+use mathlib.Core.Bool.{true, false, cond}
+use mathlib.Core.List.{List, []}
+use lib.ListN.{length, get_or, set, take, drop, length-set}
+use lib.Seq.{length-take-le, get_or-set_same, get_or-set_other}
 use borrow.Author.Tests.{ne_eqb}
 use Rattle.lists.specs.Lists.{every, fill}
 use Rattle.lists.proofs.Bools.{and_l, and_r}
-use Rattle.records.specs.declared.name.Name.{Name}
+use Rattle.std.specs.Prelude.{Result, Ok, Err}
+use Rattle.records.specs.declared.refusal.Refusal.{Refusal}
+use Rattle.records.specs.Names.{no_name}
+use Rattle.records.specs.Refusals.{number, answer as number_of}
 use Rattle.rules.specs.declared.tool.Tool.{Tool}
 use Rattle.rules.specs.declared.row.Seen.{Seen}
 use Rattle.rules.specs.declared.row.Effect.{Effect}
-use Rattle.rules.specs.declared.report.Reports.{Reports}
 use Rattle.rules.specs.State as base
 use Rattle.rules.specs.Sound as base_sound
 use Rattle.rules.specs.Held.{Held}
@@ -24,11 +26,14 @@ use Rattle.rules.specs.Reports.{no_reports, listed, differences}
 use Rattle.rules.proofs.Apt.{Apt}
 use Rattle.rules.proofs.Holding.{port_held, record_held, count_held, tool_sound}
 use Rattle.rules.proofs.SoundFacts.{few_ports, distinct}
+use Rattle.image.specs.Image.{tool_from}
 use Rattle.parts.specs.Apply.{applied}
 use Rattle.parts.specs.Told.{note_all}
 use Rattle.parts.proofs.Bridge.{bridge}
 use Rattle.parts.proofs.Notes.{all_noted}
+use Rattle.machine.proofs.Answered as machine_answered
 use Rattle.machine.proofs.Answered.{told_by}
+use Rattle.machine.proofs.Refused.{never_zero}
 use Rattle.machine.proofs.Differ.{differences_touched}
 use Rattle.follow.specs.Follow.{followed, followed_in}
 use Rattle.follow.proofs.Follows.{follow_fill}
@@ -39,7 +44,7 @@ use Rattle.maps.specs.Sound.{sound_tool}
 use Rattle.maps.specs.Rows.{codes_in, row_of}
 use Rattle.maps.specs.Outcome.{row_in, answer_in, state_after, Given, refused, given_in}
 use Rattle.maps.proofs.Amended.{row_same, first_is_lowest, accepted_there, apt_amended}
-use Rattle.mapped.specs.Bytes.{maps_from, codes_at}
+use Rattle.mapped.specs.Bytes.{maps_from, own_in, mapped_in, codes_at}
 use Rattle.mapped.proofs.InBytes.{maps_long, maps_held, map_held}
 
 -- the reports of an effect that is fit for them
@@ -148,18 +153,64 @@ module _ (t : Tool) (m : List ℕ) (i : Input) (h : sound_tool (two_in t m) ≡ 
   refused_is d = rw (← answered, ne_eqb answer 0 d)
 
 -- ── From what the code found ──
-pub given_of : {t u : Tool} {l k : List (List ℕ)} {a b : ℕ} {r q : Reports} {g j : ℕ} {c d : Bool} {n v : Name}
-    → t ≡ u → l ≡ k → a ≡ b → r ≡ q → g ≡ j → c ≡ d → n ≡ v → ◌≡◌ {A = Given}
-    (record { tool = record { base = t; maps = l }; answer = a; reports = r; goes = g; made = c; gone = n })
-    (record { tool = record { base = u; maps = k }; answer = b; reports = q; goes = j; made = d; gone = v })
-given_of p q r s t u v = rw (p, q, r, s, t, u, v)
+module _ (t : Tool) (m : List ℕ) (i : Input) (h : sound_tool (two_in t m) ≡ true) (k : Held t) (x : Seen) (c : Codes)
+    (said : Result Unit Refusal) (looked : x ≡ see (base.state_of t) i)
+    (coded : c ≡ codes_at i.number (maps_from m) x.stands x.map i.codes)
+    (judged : number_of said ≡ judge (row_of i.number x c).grounds) where
+  rowed : row_of i.number x c ≡ row_of i.number (seen t m i h k) (codes t m i h k)
+  rowed = rw (coded, looked)
 
-pub row_made : (n : ℕ) (maps : List (List ℕ)) (codes : List ℕ) (x y : Seen) (c : Codes) → x ≡ y
-    → c ≡ codes_at n maps x.stands x.map codes → row_of n x c ≡ row_of n y (codes_at n maps y.stands y.map codes)
-row_made n maps codes x y c p q = rw (q, p)
+  answered_as : number_of said ≡ answer t m i h k
+  answered_as = judged ∙ ap (λ r. judge r.grounds) rowed
 
-pub maps_made : (n : ℕ) (l k w : List (List ℕ)) (x y : Seen) (e d : Effect) (v : List ℕ) → x ≡ y → e ≡ d
-    → v ≡ cond (carries n) x.map no_map → k ≡ l
-    → w ≡ followed_in no_map x.count e.goes e.made v k
-    → w ≡ followed_in no_map y.count d.goes d.made (cond (carries n) y.map no_map) l
-maps_made n l k w x y e d v p q r s t = rw (t, r, s, q, p)
+  pub nothing_done : (r : Refusal) → said ≡ Err r → ◌≡◌ {A = Given} (record {
+    tool = two_in t m;
+    answer = number r;
+    reports = no_reports;
+    goes = x.count;
+    made = false;
+    gone = no_name;
+  }) (given_in (two_in t m) i)
+  nothing_done r z =
+      let e : number r ≡ answer t m i h k = sym (ap number_of z) ∙ answered_as in
+      let n : x.count ≡ t.count = ap (λ y. y.count) looked ∙ counted t m i h k in
+      rw (n, e) (refused_is t m i h k (λ o. never_zero r (e ∙ o)))
+
+  pub all_done : (u : Unit) → said ≡ Ok u → (e : Effect) → e ≡ (row_of i.number x c).effect
+      → (new : List ℕ) → new ≡ cond (carries i.number) x.map no_map
+      → (kept after : List (List ℕ)) → kept ≡ maps_from m → after ≡ followed_in no_map x.count e.goes e.made new kept
+      → ◌≡◌ {A = Given} (record {
+        tool = record { base = applied t e; maps = after };
+        answer = 0;
+        reports = note_all no_reports (told_by t e);
+        goes = e.goes;
+        made = e.made;
+        gone = (base.record_at t e.goes).name;
+      }) (given_in (two_in t m) i)
+  all_done u z e f new v kept after p q =
+      let d : e ≡ act t m i h k = f ∙ ap (λ r. r.effect) rowed in
+      rw (q, p, v, d, looked) (accepted_is t m i h k (sym answered_as ∙ ap number_of z))
+
+  pub few : x.count ≤ 36
+  few = let f = k.few_carriers in let n : x.count ≡ t.count = ap (λ y. y.count) looked ∙ counted t m i h k in omega arith
+
+-- ── Two blocks, the first and then the second written ──
+module _ (m : List (List ℕ)) (y w : List ℕ) (long : 1 < length m) where
+  more : 1 < length (set m 0 y)
+  more = simp length-set long
+
+  pub second_is : get_or (set (set m 0 y) 1 w) 1 [] ≡ w
+  second_is = get_or-set_same (set m 0 y) 1 w [] more
+
+  pub second_stays : get_or (set m 0 y) 1 [] ≡ get_or m 1 []
+  second_stays = get_or-set_other m 0 1 y [] (omega arith)
+
+  pub first_is : get_or (set (set m 0 y) 1 w) 0 [] ≡ y
+  first_is = get_or-set_other (set m 0 y) 1 0 w [] (omega arith) ∙ get_or-set_same m 0 y [] (omega arith)
+
+  pub two_are : (t : Tool) → tool_from y ≡ t → mapped_in (set (set m 0 y) 1 w) ≡ two_in t w
+  two_are t e = rw (first_is, second_is, e)
+
+-- what reading a tool's first block asks
+pub held_in : (m : List (List ℕ)) → sound_tool (mapped_in m) ≡ true → Held (tool_from (get_or m 0 []))
+held_in m h = machine_answered.held_in (get_or m 0 []) (base_is_sound (tool_from (get_or m 0 [])) (own_in m) h)

@@ -1,4 +1,5 @@
 // Expected maps in the bytes: whether codes are one, whether a slot map equals one, and whether those kept are sound.
+// n counts what there is in a block, which C lends whole: it isn't the length of m.
 ghost use Rattle.std.specs.Prelude.{◌≡◌, ◌&&◌, ◌≤◌, ◌+◌, get_or, take, drop, eqb};
 ghost use Rattle.lists.specs.Lists.{every, same_list};
 ghost use Rattle.image.specs.Image.{table, bytes_from};
@@ -14,31 +15,19 @@ use records::sizes::*;
 fn is_expected(codes: &[u8]) -> bool
     ensures { result ≡ is_expected codes.now }
 {
-    let n = codes.len();
-    if n != SLOTS {
-        return n == 0;
-    }
-    let mut good = true;
-    let mut i = n;
-    while 0 < i {
-        i -= 1;
-        let a = codes[i];
-        good = ((a == EMPTY) | (a == OCCUPIED)) & good;
-    }
-    good
+    codes.is_empty()
+        || codes.len() == SLOTS && codes.iter().all(|code| *code == EMPTY || *code == OCCUPIED)
 }
 
-// The 25 bytes from o on are each 1 or 3.
+// The 25 bytes from o on are each 1 or 3: `&` and `|`, since this runs over each record's map without a branch.
 fn slots(m: &[u8; TOOL_BYTES], o: usize) -> bool
     requires { o + 25 ≤ 1891 }
     ensures { result ≡ every is_slot (bytes_from m.now o 25) }
 {
     let mut ok = true;
-    let mut i = 0;
-    while i < SLOTS {
-        let a = m[o + i];
-        ok = ((a == EMPTY) | (a == OCCUPIED)) & ok;
-        i += 1;
+    for i in 0..SLOTS {
+        let code = m[o + i];
+        ok = ((code == EMPTY) | (code == OCCUPIED)) & ok;
     }
     ok
 }
@@ -49,10 +38,8 @@ fn same_codes(m: &[u8; TOOL_BYTES], o: usize, map: &[u8; SLOTS]) -> bool
     ensures { result ≡ same_list (bytes_from m.now o 25) (table 25 (λ i. get_or map.now i 0)) }
 {
     let mut ok = true;
-    let mut i = 0;
-    while i < SLOTS {
+    for i in 0..SLOTS {
         ok = (m[o + i] == map[i]) & ok;
-        i += 1;
     }
     ok
 }
@@ -62,18 +49,9 @@ fn equals_at(m: &[u8; TOOL_BYTES], k: usize, map: [u8; SLOTS]) -> bool
     ensures { result ≡ equals (get_or (maps_from m.now) k no_map) map }
 {
     if k < RECORDS {
+        // by `&` both are told as one fact; `&&` reads no plainer, and gives the proof one way out more
         let none = zeros(m, SLOTS * k, SLOTS);
         !none & same_codes(m, SLOTS * k, &map)
-    } else {
-        false
-    }
-}
-
-fn equal_map(m: &[u8; TOOL_BYTES], number: u32, k: usize, map: [u8; SLOTS]) -> bool
-    ensures { result ≡ (eqb number 20 && equals (get_or (maps_from m.now) k no_map) map) }
-{
-    if number == 20 {
-        equals_at(m, k, map)
     } else {
         false
     }
@@ -89,9 +67,10 @@ pub fn codes_at(
 ) -> Codes
     ensures { result ≡ codes_at number (maps_from m.now) k map codes.now }
 {
+    let equal = number == 20 && equals_at(m, k, map);
     Codes {
         fine: is_expected(codes),
-        equal: equal_map(m, number, k, map),
+        equal,
     }
 }
 
@@ -113,10 +92,8 @@ fn all_kept(m: &[u8; TOOL_BYTES], n: usize) -> bool
     ensures { result ≡ every is_kept (take n (maps_from m.now)) }
 {
     let mut ok = true;
-    let mut k = 0;
-    while k < n {
+    for k in 0..n {
         ok = kept_at(m, SLOTS * k) & ok;
-        k += 1;
     }
     ok
 }
@@ -127,9 +104,7 @@ fn none_after(m: &[u8; TOOL_BYTES], n: usize) -> bool
     ensures { result ≡ every is_none (drop n (maps_from m.now)) }
 {
     let mut ok = true;
-    let mut k = RECORDS;
-    while n < k {
-        k -= 1;
+    for k in (n..RECORDS).rev() {
         ok = zeros(m, SLOTS * k, SLOTS) & ok;
     }
     ok
@@ -140,6 +115,5 @@ pub fn sound_maps(m: &[u8; TOOL_BYTES], n: usize) -> bool
     requires { n ≤ 36 }
     ensures { result ≡ (every is_kept (take n (maps_from m.now)) && every is_none (drop n (maps_from m.now))) }
 {
-    let kept = all_kept(m, n);
-    kept & none_after(m, n)
+    all_kept(m, n) && none_after(m, n)
 }

@@ -3,21 +3,16 @@ ghost use Rattle.std.specs.Prelude.{◌≡◌, cond};
 ghost use Rattle.prediction.specs.Predictions.{is_soon, estimate, is_late, as_it_is, on_access, on_cancel, on_judging, on_none};
 ghost use Rattle.prediction.specs.Outcome.{is_timed, says_of, own_facts};
 
+use crate::numbers::*;
 use prediction::prediction::*;
 use times::words::WAITING_FOR_CARRIER;
 
-// A number of seconds where sums of them have room.
-pub fn roomy(n: u32) -> u64
-    ensures { result ≡ n }
-{
-    n as u64
-}
-
 // Tp minus now is at most the setting time.
+#[tactic(auto, unfolding(prediction::specs::Predictions::is_soon))]
 fn is_soon(t: Times, p: Prediction) -> bool
     ensures { result ≡ is_soon t p }
 {
-    roomy(p.tp) <= roomy(t.now) + roomy(t.setting)
+    u64::from(p.tp) <= u64::from(t.now) + u64::from(t.setting)
 }
 
 // The estimate that was given, or else the current time.
@@ -28,11 +23,12 @@ fn estimate(t: Times, p: Prediction) -> u32
 }
 
 // The timeout isn't 0, and Te is at least Tp plus timeout.
+#[tactic(auto, unfolding(prediction::specs::Predictions::is_late))]
 fn is_late(t: Times, p: Prediction) -> bool
     ensures { result ≡ is_late t p }
 {
-    let te = roomy(estimate(t, p));
-    !(t.timeout == 0) & (roomy(p.tp) + roomy(t.timeout) <= te)
+    let te = u64::from(estimate(t, p));
+    t.timeout != 0 && u64::from(p.tp) + u64::from(t.timeout) <= te
 }
 
 // Nothing but whether it is ready.
@@ -56,10 +52,7 @@ fn on_access(t: Times, ready: bool) -> Facts
     Facts {
         taken: true,
         unset: t.setting == 0,
-        soon: false,
-        late: false,
-        impossible: false,
-        ready,
+        ..as_it_is(ready)
     }
 }
 
@@ -68,12 +61,8 @@ fn on_cancel(t: Times, p: Prediction, ready: bool) -> Facts
     ensures { result ≡ on_cancel t p ready }
 {
     Facts {
-        taken: true,
-        unset: t.setting == 0,
         soon: p.state == WAITING_FOR_CARRIER,
-        late: false,
-        impossible: false,
-        ready,
+        ..on_access(t, ready)
     }
 }
 
@@ -82,15 +71,10 @@ fn on_judging(t: Times, p: Prediction, ready: bool) -> Facts
     ensures { result ≡ on_judging t p ready }
 {
     let known = p.known == 1;
-    let soon = is_soon(t, p);
-    let late = is_late(t, p);
     Facts {
-        taken: false,
-        unset: false,
-        soon: known & soon,
-        late: known & late,
-        impossible: false,
-        ready,
+        soon: known && is_soon(t, p),
+        late: known && is_late(t, p),
+        ..as_it_is(ready)
     }
 }
 
@@ -99,23 +83,20 @@ fn on_none(ready: bool) -> Facts
     ensures { result ≡ on_none ready }
 {
     Facts {
-        taken: false,
-        unset: false,
-        soon: false,
-        late: false,
         impossible: true,
-        ready,
+        ..as_it_is(ready)
     }
 }
 
 // Of the carrier that an input names.
+#[tactic(auto, unfolding(prediction::specs::Outcome::own_facts))]
 pub fn own_facts(number: u32, t: Times, p: Prediction, ready: bool) -> Facts
     ensures { result ≡ own_facts number t p ready }
 {
     match number {
-        6 => on_cancel(t, p, ready),
-        21 => on_access(t, ready),
-        34 => on_none(ready),
+        CANCEL_CARRIER => on_cancel(t, p, ready),
+        ACCESS_START => on_access(t, ready),
+        NO_PREDICTION => on_none(ready),
         _ => as_it_is(ready),
     }
 }
@@ -124,14 +105,17 @@ pub fn own_facts(number: u32, t: Times, p: Prediction, ready: bool) -> Facts
 pub fn is_timed(number: u32) -> bool
     ensures { result ≡ is_timed number }
 {
-    (31 <= number) & (number <= 34)
+    CLOCK <= number && number <= NO_PREDICTION
 }
 
 // Whether it says something of the carrier that it names.
+#[tactic(auto, unfolding(prediction::specs::Outcome::says_of))]
 pub fn says_of(number: u32) -> bool
     ensures { result ≡ says_of number }
 {
-    (number == 6) | (number == 21) | ((32 <= number) & (number <= 34))
+    number == CANCEL_CARRIER
+        || number == ACCESS_START
+        || PREDICTED_TIME <= number && number <= NO_PREDICTION
 }
 
 // Of each carrier afterwards.

@@ -3,4 +3,5 @@
 
 pub mod facts;
 pub mod model;
+pub mod numbers;
 pub mod written;

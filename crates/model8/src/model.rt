@@ -9,37 +9,28 @@ ghost use Rattle.prediction.specs.Outcome.{told};
 use image::layout::REPORTS_BYTES;
 use parts::report::note_if;
 use prediction::prediction::*;
-use records::choose::first;
 use records::name::Name;
 use records::words::NO_PORT;
 use times::words::*;
 
 pub const MODEL: u8 = 8;
 
-// Where the first transition leads that applies: the table's last line is looked at first.
+// Where the first transition leads that applies: 23 to 29, in the table's order.
+#[tactic(auto, unfolding(prediction::specs::Model::next))]
 fn next(f: Facts, state: u8) -> u8
     ensures { result ≡ next (transitions f) state }
 {
-    let doomed = f.impossible | f.late;
-    let t29 = first((ABORTED == state) & f.ready, COMPLETED, state);
-    let t28 = first((PREDICTED == state) & f.late, ABORTED, t29);
-    let t27 = first((WAITING_FOR_PREDICTION == state) & doomed, ABORTED, t28);
-    let t26 = first(
-        (WAITING_FOR_CARRIER == state) & (f.taken & f.unset),
-        DISABLED,
-        t27,
-    );
-    let t25 = first((PREDICTED == state) & f.ready, COMPLETED, t26);
-    let t24 = first(
-        (WAITING_FOR_PREDICTION == state) & (f.soon & !doomed),
-        PREDICTED,
-        t25,
-    );
-    first(
-        (WAITING_FOR_CARRIER == state) & (f.taken & !f.unset),
-        WAITING_FOR_PREDICTION,
-        t24,
-    )
+    let doomed = f.impossible || f.late;
+    match state {
+        WAITING_FOR_CARRIER if f.taken && !f.unset => WAITING_FOR_PREDICTION,
+        WAITING_FOR_PREDICTION if f.soon && !doomed => PREDICTED,
+        PREDICTED if f.ready => COMPLETED,
+        WAITING_FOR_CARRIER if f.taken && f.unset => DISABLED,
+        WAITING_FOR_PREDICTION if doomed => ABORTED,
+        PREDICTED if f.late => ABORTED,
+        ABORTED if f.ready => COMPLETED,
+        _ => state,
+    }
 }
 
 // One transition, if any applies, and its report.

@@ -8,7 +8,8 @@ pub const BLANK: u8 = 0x20;
 
 pub const TEXT_MOST: usize = 32;
 
-// The name check: how many bytes of a text are its name, 0 where the text is refused.
+// The name check: how many bytes of a text are its name, 0 where the text is refused, which is what hm_name hands to C.
+// Engineers review it on paper: one pass, byte by byte, in the order of the rule's words, and no call.
 pub fn name_length(text: &[u8]) -> usize
     ensures { result ≡ name_length text.now }
 {
@@ -18,8 +19,7 @@ pub fn name_length(text: &[u8]) -> usize
     }
     // Trailing blanks are dropped: only other bytes are counted as left.
     let mut left = 0;
-    let mut i = 0;
-    while i < text.len() {
+    for i in 0..text.len() {
         let byte = text[i];
         if byte != BLANK {
             // A blank elsewhere, before this byte: refused.
@@ -32,7 +32,6 @@ pub fn name_length(text: &[u8]) -> usize
             }
             left = i + 1;
         }
-        i += 1;
     }
     // Nothing left, or more than 16 left: refused.
     let refused = (left == 0) | (NAME_BYTES < left);

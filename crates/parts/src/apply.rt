@@ -7,7 +7,6 @@ use image::layout::*;
 use image::read::{count, spot_of, used};
 use image::write::{move_up, put_carrier, put_port};
 use records::carrier::Carrier;
-use records::choose::wide;
 use records::port::Port;
 use rules::row::Effect;
 
@@ -16,7 +15,7 @@ fn with_port(m: &mut [u8; TOOL_BYTES], p: u8, q: Port)
     ensures { tool_from m.new ≡ with_port (tool_from m.old) p q }
 {
     let k = spot_of(p);
-    if k < wide(used(m)) {
+    if k < usize::from(used(m)) {
         put_port(m, PORTS_START + PORT_BYTES * k, q);
     }
 }
@@ -25,7 +24,7 @@ fn with_record(m: &mut [u8; TOOL_BYTES], k: usize, c: Carrier)
     requires { (tool_from m.old).count ≤ 36 }
     ensures { tool_from m.new ≡ with_record (tool_from m.old) k c }
 {
-    if k < wide(count(m)) {
+    if k < usize::from(count(m)) {
         put_carrier(m, RECORDS_START + CARRIER_BYTES * k, c);
     }
 }
@@ -35,7 +34,7 @@ fn removed(m: &mut [u8; TOOL_BYTES], k: usize)
     ensures { tool_from m.new ≡ removed (tool_from m.old) k }
 {
     let n = count(m);
-    if k < wide(n) {
+    if k < usize::from(n) {
         move_up(m, RECORDS_START + CARRIER_BYTES * k);
         put_carrier(m, LAST_RECORD_START, Carrier::none());
         m[COUNT_OFFSET] = n - 1;
@@ -46,11 +45,9 @@ fn pushed(m: &mut [u8; TOOL_BYTES], b: bool, c: Carrier)
     ensures { tool_from m.new ≡ pushed (tool_from m.old) b c }
 {
     let n = count(m);
-    if b {
-        if n < COUNT_MOST {
-            put_carrier(m, RECORDS_START + CARRIER_BYTES * wide(n), c);
-            m[COUNT_OFFSET] = n + 1;
-        }
+    if b && n < COUNT_MOST {
+        put_carrier(m, RECORDS_START + CARRIER_BYTES * usize::from(n), c);
+        m[COUNT_OFFSET] = n + 1;
     }
 }
 

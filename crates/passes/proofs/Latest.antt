@@ -1,9 +1,9 @@
 -- The table of the latest position for each key.
-use Rattle.std.proofs.Common.{◌≡◌, ℕ, zero, suc, ◌+◌, ◌<◌, ◌≤◌, Bool, true, false, cond, not, ◌&&◌, ◌||◌, eqb, ◌≢◌, List, set, replicate, sym, refl, ap, ◌∙◌, add-one, arith, eq-eqb, ne_eqb, eqb-true}
+use Rattle.std.proofs.Common.{◌≡◌, ℕ, zero, suc, ◌+◌, ◌<◌, ◌≤◌, Bool, true, false, cond, not, ◌&&◌, ◌||◌, eqb, ◌≢◌, List, get_or, set, replicate, sym, refl, ap, ◌∙◌, add-one, arith, eq-eqb, ne_eqb, eqb-true}
 use borrow.Author.Tests.{eqb-false}
 use Rattle.lists.specs.Lists.{every}
 use Rattle.image.specs.Image.{table}
-use Rattle.image.proofs.Table.{table_set}
+use Rattle.image.proofs.Table.{getD_table, table_set}
 use Rattle.passes.specs.Passes.{latest}
 use Rattle.passes.proofs.Turns.{every_suc, table_none}
 
@@ -21,6 +21,10 @@ module _ (key : ℕ → ℕ) where
       rw add-one
       (sym (table_set w (λ v. latest key v k) (λ v. latest key v (suc k)) (key k) (suc k) (rw (eq-eqb (key k) (key k) refl))
       (λ v h n. rw (ne_eqb (key k) v (λ e. n (sym e))))))
+
+  -- what stands in such a table
+  pub left_at : (w k h : ℕ) (marks : List ℕ) → marks ≡ marked w k → h < w → get_or marks h 0 ≡ latest key h k
+  left_at w k h marks e b = ap (λ l. get_or l h 0) e ∙ getD_table w (λ v. latest key v k) h 0 b
 
   pub latest_low : (v n : ℕ) → latest key v n ≤ n
   unfolding latest

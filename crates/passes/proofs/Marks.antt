@@ -1,7 +1,8 @@
 -- Names that are the same leave the same mark.
-use Rattle.std.proofs.Common.{◌≡◌, ℕ, zero, suc, ◌+◌, ◌-◌, ◌*◌, ◌<◌, Bool, true, false, not, ◌&&◌, eqb, ltb, List, get_or, sym, refl, ap, ◌∙◌, suc-le-suc, le_of_suc-le-suc, arith, ltb-false, ltb-true, eq-eqb, eqb-true}
+use Rattle.std.proofs.Common.{◌≡◌, ℕ, zero, suc, ◌+◌, ◌-◌, ◌<◌, ◌≢◌, Bool, true, false, not, ltb, List, get_or, sym, refl, ap, ◌∙◌, suc-le-suc, le_of_suc-le-suc, arith, ltb-false, ltb-true}
+use Rattle.std.specs.Int.{w64, from_le_bytes}
 use Rattle.lists.specs.Lists.{every}
-use Rattle.lists.proofs.Bools.{same_test, and_l, and_r, and_i}
+use Rattle.lists.proofs.Bools.{same_test}
 use Rattle.lists.proofs.Tests.{list_is}
 use Rattle.records.specs.declared.carrier.Carrier.{Carrier}
 use Rattle.records.specs.Names.{same_name}
@@ -9,7 +10,7 @@ use Rattle.rules.specs.Sound.{other_name}
 use Rattle.image.specs.Image.{table, byte_at, bytes_from, name_from, carrier_start}
 use Rattle.rules.proofs.Names.{name_same}
 use Rattle.image.proofs.Table.{getD_table, table_same}
-use Rattle.passes.specs.Passes.{record_on, number, half, word, mark, mark_key, latest}
+use Rattle.passes.specs.Passes.{record_on, number, word, mark, mark_key, latest}
 use Rattle.passes.proofs.Turns.{every_on, every_of}
 use Rattle.passes.proofs.Latest.{latest_low, later_others}
 
@@ -30,6 +31,11 @@ number_is (suc n) f g a b e (suc i) h =
     number_is n (λ i. f (suc i)) (λ i. g (suc i)) (λ i c. a (suc i) (suc-le-suc c)) (λ i c. b (suc i) (suc-le-suc c)) (omega arith) i
     (le_of_suc-le-suc h)
 
+-- eight bytes read as one number
+pub word_read : (f : ℕ → ℕ) → from_le_bytes w64 (table 8 f) ≡ number 8 f
+unfolding table number
+word_read f = omega arith
+
 -- what holds of each of four
 pub four : (Q : ℕ → Type 0) → Q 0 → Q 1 → Q 2 → Q 3 → (i : ℕ) → i < 4 → Q i
 four Q a b c d zero l = a
@@ -41,27 +47,6 @@ four Q a b c d (suc (suc (suc (suc i)))) l = absurd (omega arith)
 module _ (m : List ℕ) where
   abbrev pub Small : ℕ → Type 0
   Small o = (i : ℕ) → i < 8 → byte_at m (o + i) < 256
-
-  -- a word is two halves
-  further : (o i : ℕ) → byte_at m (o + 4 + i) ≡ byte_at m (o + (4 + i))
-  further o i = ap (byte_at m) go
-    where
-      go : o + 4 + i ≡ o + (4 + i)
-      go = omega arith
-
-  pub halves : (o : ℕ) → half m o + 4294967296 * half m (o + 4) ≡ word m o
-  unfolding number
-  halves o = omega (arith, further o 0, further o 1, further o 2, further o 3)
-
-  pub small_halves : (o : ℕ) → ((i : ℕ) → i < 4 → byte_at m (o + i) < 256) → ((i : ℕ) → i < 4 → byte_at m (o + 4 + i) < 256) → Small o
-  small_halves o a b i h = go (ltb i 4) refl
-    where
-      go : (c : Bool) → ltb i 4 ≡ c → byte_at m (o + i) < 256
-      go true q = a i (ltb-true i 4 q)
-      go false q =
-          let l = ltb-false i 4 q in
-          let e : o + 4 + (i - 4) ≡ o + i = omega arith in
-          rw e at (b (i - 4) (omega arith))
 
   words_same : (o p : ℕ) → same_name (name_from m o) (name_from m p) ≡ true → (word m o ≡ word m p) × (word m (o + 8) ≡ word m (p + 8))
   unfolding same_name
@@ -82,26 +67,25 @@ module _ (m : List ℕ) where
   mark_same o p e = let w = words_same o p e in rw (w.0, w.1)
 
   -- names are compared as words
-  pub by_words : (o p : ℕ) → Small o → Small (o + 8) → Small p → Small (p + 8)
-      → (eqb (word m o) (word m p) && eqb (word m (o + 8)) (word m (p + 8))) ≡ same_name (name_from m o) (name_from m p)
-  by_words o p a b c d =
-      same_test _ _ there
-      (λ e. let w = words_same o p e in and_i (eq-eqb (word m o) (word m p) w.0) (eq-eqb (word m (o + 8)) (word m (p + 8)) w.1))
+  pub names_apart : (o p : ℕ) → (word m o ≡ word m p → word m (o + 8) ≢ word m (p + 8)) → not (same_name (name_from m o) (name_from m p)) ≡ true
+  names_apart o p h = go (same_name (name_from m o) (name_from m p)) refl
     where
-      there : (eqb (word m o) (word m p) && eqb (word m (o + 8)) (word m (p + 8))) ≡ true → same_name (name_from m o) (name_from m p) ≡ true
-      there e = name_same (name_from m o) (name_from m p)
-          (ap (λ l. record { bytes = l }) (table_same 16 (λ i. byte_at m (o + i)) (λ i. byte_at m (p + i)) (λ i h. half i h (ltb i 8) refl)))
-        where
-          half : (i : ℕ) → i < 16 → (b : Bool) → ltb i 8 ≡ b → byte_at m (o + i) ≡ byte_at m (p + i)
-          half i h true q =
-              number_is 8 (λ i. byte_at m (o + i)) (λ i. byte_at m (p + i)) a c (eqb-true (word m o) (word m p) (and_l _ _ e)) i
-              (ltb-true i 8 q)
-          half i h false q =
-              let l = ltb-false i 8 q in
-              let x : o + 8 + (i - 8) ≡ o + i = omega arith in
-              let y : p + 8 + (i - 8) ≡ p + i = omega arith in
-              rw (x, y) at (number_is 8 (λ i. byte_at m (o + 8 + i)) (λ i. byte_at m (p + 8 + i)) b d
-              (eqb-true (word m (o + 8)) (word m (p + 8)) (and_r (eqb (word m o) (word m p)) _ e)) (i - 8) (omega arith))
+      go : (b : Bool) → same_name (name_from m o) (name_from m p) ≡ b → not b ≡ true
+      go true e = absurd (let w = words_same o p e in h w.0 w.1)
+      go false e = refl
+
+  pub names_alike : (o p : ℕ) → Small o → Small (o + 8) → Small p → Small (p + 8) → word m o ≡ word m p → word m (o + 8) ≡ word m (p + 8)
+      → same_name (name_from m o) (name_from m p) ≡ true
+  names_alike o p a b c d e f = name_same (name_from m o) (name_from m p)
+      (ap (λ l. record { bytes = l }) (table_same 16 (λ i. byte_at m (o + i)) (λ i. byte_at m (p + i)) (λ i h. half i h (ltb i 8) refl)))
+    where
+      half : (i : ℕ) → i < 16 → (b : Bool) → ltb i 8 ≡ b → byte_at m (o + i) ≡ byte_at m (p + i)
+      half i h true q = number_is 8 (λ i. byte_at m (o + i)) (λ i. byte_at m (p + i)) a c e i (ltb-true i 8 q)
+      half i h false q =
+          let l = ltb-false i 8 q in
+          let x : o + 8 + (i - 8) ≡ o + i = omega arith in
+          let y : p + 8 + (i - 8) ≡ p + i = omega arith in
+          rw (x, y) at (number_is 8 (λ i. byte_at m (o + 8 + i)) (λ i. byte_at m (p + 8 + i)) b d f (i - 8) (omega arith))
 
   -- it is enough to look at those up to the latest with the same mark
   pub marked_enough : (k : ℕ) → every (λ c. other_name c (record_on m k)) (table (latest (mark_key m) (mark_key m k) k) (record_on m))

@@ -1,7 +1,8 @@
 -- What loops over positions cite: one position more, and what holds at each.
-use Rattle.std.proofs.Common.{◌≡◌, ℕ, zero, suc, ◌+◌, ◌<◌, ◌≤◌, Bool, true, false, cond, ◌&&◌, eqb, ltb, ◌∷◌, take, replicate, sym, refl, ap, ◌∙◌, ap₂, suc-le-suc, le_of_suc-le-suc, add-one, arith, ltb-false}
+use Rattle.std.proofs.Common.{◌≡◌, ℕ, zero, suc, ◌+◌, ◌<◌, ◌≤◌, Bool, true, false, cond, ◌&&◌, eqb, List, ◌∷◌, length, get_or, take, replicate, sym, refl, ap, ◌∙◌, ap₂, suc-le-suc, le_of_suc-le-suc, add-one, arith}
 use Rattle.lists.specs.Lists.{every, every_two, how_many, same_list}
 use Rattle.lists.proofs.Bools.{and_l, and_r, and_i}
+use Rattle.lists.proofs.Library.{every_more}
 use Rattle.image.specs.Image.{table}
 
 swap : (a b c : Bool) → (a && (b && c)) ≡ (b && (a && c))
@@ -92,15 +93,18 @@ module _ {A : Type 0} where
       and_i (every_of (F (f 0)) (λ k. f (suc k)) n (λ j b. h 0 (suc j) (omega arith) (suc-le-suc b)))
       (two_of F (λ k. f (suc k)) n (λ i j a b. h (suc i) (suc j) (suc-le-suc a) (suc-le-suc b)))
 
-  -- a loop that stops at the first failure
-  pub stopped : (F : A → Bool) (f : ℕ → A) (ok : Bool) (j n : ℕ) → j ≤ n → ok ≡ every F (table j f) → (ok && ltb j n) ≡ false
-      → ok ≡ every F (table n f)
-  stopped F f true j n h e t = let b = ltb-false j n t in let z : j ≡ n = omega arith in rw z at e
-  stopped F f false j n h e t = sym (go (every F (table n f)) refl)
+  -- one that fails
+  pub failed : (F : A → Bool) (f : ℕ → A) (n k : ℕ) → k < n → F (f k) ≡ false → false ≡ every F (table n f)
+  failed F f n k h e = go (every F (table n f)) refl
     where
-      go : (b : Bool) → every F (table n f) ≡ b → b ≡ false
-      go true q = sym (every_of F f j (λ k c. every_on F f n q k (omega arith))) ∙ sym e
-      go false q = refl
+      go : (b : Bool) → every F (table n f) ≡ b → false ≡ every F (table n f)
+      go true q = sym e ∙ every_on F f n q k h ∙ sym q
+      go false q = sym q
+
+  -- one element more of a list
+  pub every_turn : (F : A → Bool) (l : List A) (b : Bool) (k : ℕ) (d : A) → k < length l → b ≡ every F (take k l)
+      → (b && F (get_or l k d)) ≡ every F (take (k + 1) l)
+  every_turn F l b k d h e = rw (add-one k, every_more F l k d h, e)
 
   -- a table of one value
   pub table_none : (n : ℕ) (x : A) → replicate n x ≡ table n (λ _. x)

@@ -1,5 +1,7 @@
 // Bytes against their bounds. The same byte of every record shares a lane, and the lanes are judged once, at the end: no
-// record is waited for, and the lanes of one record are looked at together.
+// record is waited for, and the lanes of one record are looked at together. Names and fields have a pass each: one pass for
+// both, with what it asks of a byte as a closure, would have to state all that the closure answers, and reads no plainer.
+// n counts the records in a block, which C lends whole: it isn't the length of m.
 ghost use Rattle.std.specs.Prelude.{◌≡◌, ◌+◌, ◌≤◌, false, ◌&&◌, length, slice_index, slice_index_or};
 ghost use Rattle.lists.specs.Lists.{every, between};
 ghost use Rattle.image.specs.Image.{table, byte_at};
@@ -18,10 +20,8 @@ fn all(good: &[bool]) -> bool
     ensures { result ≡ every itself good.now }
 {
     let mut ok = true;
-    let mut i = good.len();
-    while 0 < i {
-        i -= 1;
-        ok = good[i] & ok;
+    for lane in good {
+        ok = ok & *lane;
     }
     ok
 }
@@ -40,14 +40,12 @@ fn name_lanes(
         && name_lane (slice_index first.now i) (slice_index last.now i) (byte_at m.now (o + i))
         (byte_at m.now (o + i + 1))) }
 {
-    let mut i = 0;
-    while i < NAME_BYTES {
+    for i in 0..NAME_BYTES {
         let b = m[o + i];
         let next = m[o + i + 1];
         let ends = (b == 0) & ((last[i] == 1) | (next == 0));
         good[i] = good[i]
             & ((ends | ((NAME_BYTE_LEAST <= b) & (b <= NAME_BYTE_GREATEST))) & (first[i] <= b));
-        i += 1;
     }
 }
 
@@ -64,11 +62,9 @@ fn field_lanes(
     ensures { good.new ≡ table 32 (λ i. slice_index_or good.old i false
         && between (slice_index least.now i) (byte_at m.now (o + i)) (slice_index most.now i)) }
 {
-    let mut i = 0;
-    while i < FIELDS {
+    for i in 0..FIELDS {
         let b = m[o + i];
         good[i] = good[i] & ((least[i] <= b) & (b <= most[i]));
-        i += 1;
     }
 }
 
@@ -82,8 +78,7 @@ pub fn named(m: &[u8; TOOL_BYTES], n: usize) -> bool
     first[0] = 1;
     last[15] = 1;
     let mut good = [true; NAME_BYTES];
-    let mut k = 0;
-    while k < n {
+    for k in 0..n {
         name_lanes(
             &mut good,
             m,
@@ -91,7 +86,6 @@ pub fn named(m: &[u8; TOOL_BYTES], n: usize) -> bool
             &first,
             &last,
         );
-        k += 1;
     }
     all(&good)
 }
@@ -115,8 +109,7 @@ pub fn fields(m: &[u8; TOOL_BYTES], n: usize) -> bool
     most[30] = FAILED;
     most[31] = STOPPED;
     let mut good = [true; FIELDS];
-    let mut k = 0;
-    while k < n {
+    for k in 0..n {
         field_lanes(
             &mut good,
             m,
@@ -124,7 +117,6 @@ pub fn fields(m: &[u8; TOOL_BYTES], n: usize) -> bool
             &least,
             &most,
         );
-        k += 1;
     }
     all(&good)
 }

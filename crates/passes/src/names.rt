@@ -1,24 +1,13 @@
 // Names differ. Each leaves a mark, and only where that is taken is a name compared with those before it.
+// n counts what there is in a block, which C lends whole: it isn't the length of m.
 ghost use Rattle.std.specs.Prelude.{◌≡◌, ℕ, ◌+◌, ◌<◌, ◌≤◌};
 ghost use Rattle.lists.specs.Lists.{every, every_two};
 ghost use Rattle.rules.specs.Sound.{other_name};
 ghost use Rattle.image.specs.Image.{table, byte_at};
-ghost use Rattle.passes.specs.Passes.{record_on, half, word, mark};
+ghost use Rattle.passes.specs.Passes.{record_on, word, mark};
 
-use crate::bytes::broad;
 use image::layout::*;
-use records::choose::wide;
-use std::num::wrapping_add_u64;
-
-// Four bytes as one number.
-fn half(m: &[u8; TOOL_BYTES], o: usize) -> u64
-    requires { o + 4 ≤ 1891 }
-    ensures value { result ≡ half m.now o }
-    ensures upper_bound { result < 4294967296 }
-    ensures by_index { (i : ℕ) → i < 4 → byte_at m.now (o + i) < 256 }
-{
-    broad(m[o]) + 256 * (broad(m[o + 1]) + 256 * (broad(m[o + 2]) + 256 * broad(m[o + 3])))
-}
+use image::read::bytes_from;
 
 // Eight bytes as one number.
 fn word(m: &[u8; TOOL_BYTES], o: usize) -> u64
@@ -26,16 +15,17 @@ fn word(m: &[u8; TOOL_BYTES], o: usize) -> u64
     ensures value { result ≡ word m.now o }
     ensures by_index { (i : ℕ) → i < 8 → byte_at m.now (o + i) < 256 }
 {
-    half(m, o) + 4294967296 * half(m, o + 4)
+    u64::from_le_bytes(bytes_from(m, o))
 }
 
 // The mark of the name at o. 907 and 36: names that differ in one byte, or in two by less than 14 each, leave different marks.
+#[tactic(auto, unfolding(crate::specs::Passes::mark))]
 fn mark(m: &[u8; TOOL_BYTES], o: usize) -> usize
     requires { o + 16 ≤ 1891 }
     ensures value { result ≡ mark m.now o }
     ensures upper_bound { result < 1024 }
 {
-    let x = wrapping_add_u64(word(m, o), word(m, o + 8) % 907 * 36);
+    let x = word(m, o).wrapping_add(word(m, o + 8) % 907 * 36);
     (x % 907) as usize
 }
 
@@ -47,15 +37,13 @@ fn alone(m: &[u8; TOOL_BYTES], k: usize, n: usize) -> bool
 {
     let a = word(m, RECORDS_START + CARRIER_BYTES * k);
     let b = word(m, RECORDS_START + CARRIER_BYTES * k + 8);
-    let mut ok = true;
-    let mut j = 0;
-    while ok & (j < n) {
-        let same = (word(m, RECORDS_START + CARRIER_BYTES * j) == a)
-            & (word(m, RECORDS_START + CARRIER_BYTES * j + 8) == b);
-        ok = !same & ok;
-        j += 1;
+    for j in 0..n {
+        let o = RECORDS_START + CARRIER_BYTES * j;
+        if word(m, o) == a && word(m, o + 8) == b {
+            return false;
+        }
     }
-    ok
+    true
 }
 
 // Where a mark is new, no earlier name is the same; else those up to the latest that left it are compared.
@@ -65,15 +53,13 @@ pub fn differ(m: &[u8; TOOL_BYTES], n: usize) -> bool
 {
     let mut marks = [0u8; 1024];
     let mut ok = true;
-    let mut k = 0;
-    while k < n {
+    for k in 0..n {
         let h = mark(m, RECORDS_START + CARRIER_BYTES * k);
-        let before = wide(marks[h]);
+        let before = usize::from(marks[h]);
         if 0 < before {
             ok = alone(m, k, before) & ok;
         }
-        k += 1;
-        marks[h] = k as u8;
+        marks[h] = (k + 1) as u8;
     }
     ok
 }

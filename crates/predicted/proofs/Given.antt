@@ -5,6 +5,9 @@ use mathlib.Core.Logic.{◌≢◌}
 use mathlib.Core.List.{List, ◌++◌}
 use borrow.Author.Tests.{ne_eqb}
 use Rattle.lists.specs.Lists.{fill}
+use Rattle.std.specs.Prelude.{Result, Ok}
+use Rattle.records.specs.declared.refusal.Refusal.{Refusal}
+use Rattle.records.specs.Refusals.{answer}
 use Rattle.rules.specs.declared.report.Reports.{Reports}
 use Rattle.rules.specs.State.{State}
 use Rattle.rules.specs.Reports.{no_reports, listed, differences}
@@ -41,13 +44,13 @@ module _ (m : List (List ℕ)) (i : Timed) where
   abbrev s : Predicted
   s = state_of (predicted_in m)
 
-  pub refused_left : (a : ℕ) (o : List ℕ) → answer_in s i ≡ a → a ≢ 0 → reports_from o ≡ no_reports → left m o a ≡ given_in (predicted_in m) i
+  pub refused_left : (a : Result Unit Refusal) (o : List ℕ) → answer_in s i ≡ answer a → answer a ≢ 0 → reports_from o ≡ no_reports → left m o a ≡ given_in (predicted_in m) i
   unfolding given_in
-  refused_left a o e d r = rw (e, ne_eqb a 0 d, r)
+  refused_left a o e d r = rw (e, ne_eqb (answer a) 0 d, r)
 
   -- and another tool that holds the same
-  pub refused_then : (n : List (List ℕ)) (a : ℕ) (o : List ℕ) → queued_in n ≡ queued_in m → times_from (own_in n) ≡ times_from (own_in m)
-      → predictions_from (own_in n) ≡ predictions_from (own_in m) → answer_in s i ≡ a → a ≢ 0 → reports_from o ≡ no_reports
+  pub refused_then : (n : List (List ℕ)) (a : Result Unit Refusal) (o : List ℕ) → queued_in n ≡ queued_in m → times_from (own_in n) ≡ times_from (own_in m)
+      → predictions_from (own_in n) ≡ predictions_from (own_in m) → answer_in s i ≡ answer a → answer a ≢ 0 → reports_from o ≡ no_reports
       → left n o a ≡ given_in (predicted_in m) i
   refused_then n a o q t p e d r = given_of q t p refl ∙ refused_left a o e d r
 
@@ -67,5 +70,5 @@ module _ (m : List (List ℕ)) (i : Timed) where
       → queued_in n ≡ queue.in_tool (outcome.below s i).after → times_from (own_in n) ≡ outcome.times_then s i
       → predictions_from (own_in n) ≡ fill 36 no_prediction (outcome.third s i)
       → reports_from o ≡ listed (differences (base_of s) (outcome.after s i) ++ outcome.eight s i)
-      → left n o 0 ≡ given_in (predicted_in m) i
+      → left n o (Ok tt) ≡ given_in (predicted_in m) i
   accepted_left z n o q t p r = given_of q t p r ∙ accepted_is z

@@ -6,3 +6,4 @@ pub mod Given
 pub mod Asked
 pub mod Clocked
 pub mod Followed
+pub mod Below

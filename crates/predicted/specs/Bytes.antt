@@ -1,6 +1,8 @@
 -- The tool with its predictions, in two blocks of 1,891 bytes; and what is read off them.
-use Rattle.std.specs.Prelude.{ℕ, ◌≡◌, Bool, cond, List, [], ◌++◌, get_or, set, take}
+use Rattle.std.specs.Prelude.{ℕ, ◌≡◌, Bool, cond, Result, List, [], ◌++◌, get_or, set, take}
 use Rattle.lists.specs.Lists.{fill}
+use Rattle.records.specs.declared.refusal.Refusal.{Refusal}
+use Rattle.records.specs.Refusals.{answer}
 use Rattle.records.specs.declared.carrier.Carrier.{Carrier}
 use Rattle.rules.specs.declared.report.Report.{Report}
 use Rattle.rules.specs.State.{State, state_of, record_of}
@@ -20,8 +22,8 @@ abbrev pub predicted_in : List (List ℕ) → PredictedTool
 predicted_in m = record { queued = queued_in m; times = times_from (own_in m); predictions = predictions_from (own_in m) }
 
 -- what a step leaves: the bytes of the tool and of the reports, and its answer
-abbrev pub left : List (List ℕ) → List ℕ → ℕ → Given
-left m o answer = record { tool = predicted_in m; answer = answer; reports = reports_from o }
+abbrev pub left : List (List ℕ) → List ℕ → Result Unit Refusal → Given
+left m o said = record { tool = predicted_in m; answer = answer said; reports = reports_from o }
 
 -- ── What moves predictions along ──
 -- document 01's state, and the predictions of its records

@@ -19,8 +19,6 @@ use model8::facts::*;
 use model8::model::moves_along;
 use model8::written::*;
 use prediction::prediction::*;
-use queued::below::blocks;
-use records::choose::wide;
 use times::read::{prediction_at, state_at};
 use times::sound::is_ready;
 use times::words::*;
@@ -45,8 +43,7 @@ pub fn own_along(
         (own_moved number t time (base_in m.old) (used_in m.old) k).passed) }
     ensures kept_outside { KeptOutside 1201 1597 (own_in m.old) (own_in m.new) }
 {
-    blocks(m);
-    if k < wide(count(&m[0])) {
+    if k < usize::from(count(&m[0])) {
         let c = record_at(&m[0], k);
         let p = prediction_at(&m[1], k);
         let ready = is_ready(&m[0], c);
@@ -79,9 +76,8 @@ fn along_at(
         (get_or (predictions_from (own_in m.old)) k no_prediction)).passed) }
     ensures kept_outside { KeptOutside 1201 1597 (own_in m.old) (own_in m.new) }
 {
-    blocks(m);
     let state = state_at(&m[1], k);
-    if (WAITING_FOR_PREDICTION <= state) & (state <= ABORTED) {
+    if (WAITING_FOR_PREDICTION..=ABORTED).contains(&state) {
         let c = record_at(&m[0], k);
         let p = prediction_at(&m[1], k);
         let ready = is_ready(&m[0], c);
@@ -107,10 +103,8 @@ pub fn all_along(
         (all_told (facts_in timed t (base_in m.old)) (base_in m.old).carriers (used_in m.old)) }
     ensures kept_outside { KeptOutside 1201 1597 (own_in m.old) (own_in m.new) }
 {
-    let n = wide(count(&m[0]));
-    let mut k = 0;
-    while k < n {
+    let n = usize::from(count(&m[0]));
+    for k in 0..n {
         along_at(m, o, timed, t, k);
-        k += 1;
     }
 }

@@ -2,14 +2,14 @@
 ghost use Rattle.std.specs.Prelude.{◌≡◌, true, false, cond, not, ◌&&◌, [], ◌++◌, eqb, get_or, ◌≤◌, ◌-◌};
 ghost use Rattle.rules.specs.State.{state_of, record_at};
 ghost use Rattle.rules.specs.Held.{Held};
-ghost use Rattle.rules.specs.Seen.{input_of, see};
+ghost use Rattle.rules.specs.Seen.{input_in, see};
 ghost use Rattle.rules.specs.Reports.{report_if};
 ghost use Rattle.image.specs.Image.{tool_from, reports_from};
 ghost use Rattle.parts.specs.Told.{note_all};
 ghost use Rattle.follow.specs.Follow.{followed_in, KeptOutside};
 ghost use Rattle.mapped.specs.Bytes.{own_in};
 ghost use Rattle.prediction.specs.Predictions.{no_prediction, new_prediction};
-ghost use Rattle.prediction.specs.State.{timed};
+ghost use Rattle.prediction.specs.State.{timed_in};
 ghost use Rattle.prediction.specs.Sound.{sound_tool};
 ghost use Rattle.prediction.specs.Outcome.{is_timed, says_of, given_in};
 ghost use Rattle.times.specs.Bytes.{predictions_from};
@@ -23,36 +23,29 @@ use mapped::step::{Moved, name_at};
 use model8::facts::says_of;
 use model8::model::MODEL;
 use parts::report::note_if;
+use prediction::input::Timed;
 use prediction::prediction::*;
-use queued::below::blocks;
 use queued::step::queued_step;
-use records::choose::wide;
 use records::name::Name;
+use records::refusal::Refusal;
 use records::words::NO_PORT;
+use rules::input::Input;
 use sight::look::look;
 use times::read::{no_prediction, state_at, times_at};
 use times::words::WAITING_FOR_CARRIER;
 use times::write::predictions_follow;
 
 // Where the carrier stands that an input says something of; the number of records: nobody.
-fn spot(
-    m: &[u8; TOOL_BYTES],
-    number: u32,
-    port: u32,
-    value: u32,
-    name: &[u8],
-    codes: &[u8],
-) -> usize
+fn spot(m: &[u8; TOOL_BYTES], i: Input) -> usize
     requires { Held (tool_from m.now) }
-    ensures { result ≡ cond (says_of number)
-        (see (state_of (tool_from m.now)) (input_of number port value name.now codes.now)).stands
+    ensures { result ≡ cond (says_of i.entry.number) (see (state_of (tool_from m.now)) (input_in i.entry)).stands
         (tool_from m.now).count }
 {
-    if says_of(number) {
-        let x = look(m, port, value, name, codes);
+    if says_of(i.number) {
+        let x = look(m, i);
         x.stands
     } else {
-        wide(count(m))
+        usize::from(count(m))
     }
 }
 
@@ -60,12 +53,7 @@ fn spot(
 fn last_name(m: &[u8; TOOL_BYTES]) -> Name
     ensures { result ≡ (record_at (tool_from m.now) ((tool_from m.now).count - 1)).name }
 {
-    let n = wide(count(m));
-    if 0 < n {
-        name_at(m, n - 1)
-    } else {
-        name_at(m, 0)
-    }
+    name_at(m, usize::from(count(m)).saturating_sub(1))
 }
 
 // What is predicted of a record that is made.
@@ -75,10 +63,7 @@ fn first_prediction(fixed: bool) -> Prediction
     if fixed {
         Prediction {
             state: WAITING_FOR_CARRIER,
-            known: 0,
-            estimated: 0,
-            tp: 0,
-            te: 0,
+            ..no_prediction()
         }
     } else {
         no_prediction()
@@ -105,6 +90,7 @@ fn records_follow(
 {
     let old = state_at(m, r.goes);
     note_if(o, old != 0, MODEL, NO_PORT, r.gone, old, 0);
+    // by `&` the argument is one fact; `&&` reads no plainer
     note_if(
         o,
         r.made & fixed,
@@ -120,33 +106,22 @@ fn records_follow(
 pub fn other_step(
     m: &mut [[u8; TOOL_BYTES]; BLOCKS],
     o: &mut [u8; REPORTS_BYTES],
-    number: u32,
-    port: u32,
-    value: u32,
-    name: &[u8],
-    codes: &[u8],
-    clock: u32,
-    time: u32,
-) -> u8
+    i: Timed,
+) -> Result<(), Refusal>
     requires m_value { sound_tool (predicted_in m.old) ≡ true }
-    requires number_value { is_timed number ≡ false }
+    requires number_value { is_timed i.input.number ≡ false }
     ensures result_after { left m.new o.new result ≡ given_in (predicted_in m.old)
-        (timed (input_of number port value name.now codes.now) clock time) }
+        (timed_in i.entry) }
     ensures kept_outside { KeptOutside 0 1597 (own_in m.old) (own_in m.new) }
 {
-    blocks(m);
-    let n = wide(count(&m[0]));
+    let n = usize::from(count(&m[0]));
     let fixed = places(&m[0]) == 0;
     let t = times_at(&m[1]);
-    let r = queued_step(m, o, number, port, value, name, codes);
-    if r.answer == 0 {
-        blocks(m);
-        let new = last_name(&m[0]);
-        records_follow(&mut m[1], o, n, fixed, r, new);
-        let k = spot(&m[0], number, port, value, name, codes);
-        moved_along(m, o, number, t, time, k);
-        0
-    } else {
-        r.answer
-    }
+    let r = queued_step(m, o, i.input);
+    r.answer?;
+    let new = last_name(&m[0]);
+    records_follow(&mut m[1], o, n, fixed, r, new);
+    let k = spot(&m[0], i.input);
+    moved_along(m, o, i.input.number, t, i.time, k);
+    Ok(())
 }

@@ -1,13 +1,14 @@
 // The inputs that bring a clock: 31 Clock, 32 PredictedTime, 33 Estimate, 34 NoPrediction.
 ghost use Rattle.std.specs.Prelude.{◌≡◌, true, [], ◌∷◌, eqb, ltb, get_or};
+ghost use Rattle.records.specs.Refusals.{answer};
 ghost use Rattle.rules.specs.Row.{when, unless, judge};
-ghost use Rattle.rules.specs.Seen.{input_of};
+ghost use Rattle.rules.specs.Seen.{input_in};
 ghost use Rattle.follow.specs.Follow.{KeptOutside};
 ghost use Rattle.mapped.specs.Bytes.{own_in};
 ghost use Rattle.prediction.specs.Model.{waiting_for_prediction};
 ghost use Rattle.prediction.specs.Predictions.{no_prediction, has_tp};
 ghost use Rattle.prediction.specs.Sound.{sound_tool};
-ghost use Rattle.prediction.specs.State.{state_of, timed, is_fixed};
+ghost use Rattle.prediction.specs.State.{state_of, timed, timed_in, is_fixed};
 ghost use Rattle.prediction.specs.Outcome.{is_timed, answer_in, given_in};
 ghost use Rattle.times.specs.Bytes.{times_from, predictions_from};
 ghost use Rattle.predicted.specs.Bytes.{predicted_in, left, base_in};
@@ -19,9 +20,10 @@ use image::layout::*;
 use image::read::places;
 use image::report::no_reports;
 use model8::facts::says_of;
+use prediction::input::Timed;
 use prediction::prediction::*;
-use queued::below::blocks;
-use records::choose::{either, first};
+use records::refusal::{Refusal, unless, when};
+use rules::input::Input;
 use rules::row::Seen;
 use sight::look::look;
 use times::read::{prediction_at, times_at};
@@ -29,40 +31,49 @@ use times::words::*;
 use times::write::put_clock;
 
 // 32: a name with a record, in a fixed buffer tool; WAITING FOR PREDICTION, and no Tp yet; a clock that doesn't run back.
-fn tp_answer(x: Seen, fixed: bool, p: Prediction, back: bool) -> u8
-    ensures { result ≡ judge (unless x.named 1 ∷ unless x.known 2 ∷ unless fixed 5
+fn tp_answer(x: Seen, fixed: bool, p: Prediction, back: bool) -> Result<(), Refusal>
+    ensures { answer result ≡ judge (unless x.named 1 ∷ unless x.known 2 ∷ unless fixed 5
         ∷ unless (eqb p.state waiting_for_prediction) 5 ∷ when (has_tp p) 5 ∷ when back 11 ∷ []) }
 {
-    let waits = p.state == WAITING_FOR_PREDICTION;
-    let a = first(!waits, 5, first(p.known == 1, 5, first(back, 11, 0)));
-    first(!x.named, 1, first(!x.known, 2, first(!fixed, 5, a)))
+    unless(x.named, Refusal::OutOfRange)?;
+    unless(x.known, Refusal::NoRecord)?;
+    unless(fixed, Refusal::Conditions)?;
+    unless(p.state == WAITING_FOR_PREDICTION, Refusal::Conditions)?;
+    when(p.known == 1, Refusal::Conditions)?;
+    when(back, Refusal::ClockEarlier)
 }
 
 // 33: the same, with a Tp.
-fn te_answer(x: Seen, fixed: bool, p: Prediction, back: bool) -> u8
-    ensures { result ≡ judge (unless x.named 1 ∷ unless x.known 2 ∷ unless fixed 5
+fn te_answer(x: Seen, fixed: bool, p: Prediction, back: bool) -> Result<(), Refusal>
+    ensures { answer result ≡ judge (unless x.named 1 ∷ unless x.known 2 ∷ unless fixed 5
         ∷ unless (has_tp p) 5 ∷ when back 11 ∷ []) }
 {
-    let a = first(!(p.known == 1), 5, first(back, 11, 0));
-    first(!x.named, 1, first(!x.known, 2, first(!fixed, 5, a)))
+    unless(x.named, Refusal::OutOfRange)?;
+    unless(x.known, Refusal::NoRecord)?;
+    unless(fixed, Refusal::Conditions)?;
+    unless(p.known == 1, Refusal::Conditions)?;
+    when(back, Refusal::ClockEarlier)
 }
 
 // 34: the same, in WAITING FOR PREDICTION.
-fn none_answer(x: Seen, fixed: bool, p: Prediction, back: bool) -> u8
-    ensures { result ≡ judge (unless x.named 1 ∷ unless x.known 2 ∷ unless fixed 5
+fn none_answer(x: Seen, fixed: bool, p: Prediction, back: bool) -> Result<(), Refusal>
+    ensures { answer result ≡ judge (unless x.named 1 ∷ unless x.known 2 ∷ unless fixed 5
         ∷ unless (eqb p.state waiting_for_prediction) 5 ∷ when back 11 ∷ []) }
 {
-    let waits = p.state == WAITING_FOR_PREDICTION;
-    let a = first(!waits, 5, first(back, 11, 0));
-    first(!x.named, 1, first(!x.known, 2, first(!fixed, 5, a)))
+    unless(x.named, Refusal::OutOfRange)?;
+    unless(x.known, Refusal::NoRecord)?;
+    unless(fixed, Refusal::Conditions)?;
+    unless(p.state == WAITING_FOR_PREDICTION, Refusal::Conditions)?;
+    when(back, Refusal::ClockEarlier)
 }
 
 // By number.
-fn timed_answer(number: u32, x: Seen, fixed: bool, p: Prediction, back: bool) -> u8
-    ensures { result ≡ judge (timed_grounds number x fixed p back) }
+#[tactic(auto, unfolding(crate::specs::Asked::timed_grounds))]
+fn timed_answer(number: u32, x: Seen, fixed: bool, p: Prediction, back: bool) -> Result<(), Refusal>
+    ensures { answer result ≡ judge (timed_grounds number x fixed p back) }
 {
     match number {
-        31 => first(back, 11, 0),
+        31 => when(back, Refusal::ClockEarlier),
         32 => tp_answer(x, fixed, p, back),
         33 => te_answer(x, fixed, p, back),
         _ => none_answer(x, fixed, p, back),
@@ -70,8 +81,13 @@ fn timed_answer(number: u32, x: Seen, fixed: bool, p: Prediction, back: bool) ->
 }
 
 // The answer to one of the four, by what is seen of its name.
-fn seen_answer(m: &[[u8; TOOL_BYTES]; BLOCKS], number: u32, x: Seen, clock: u32) -> u8
-    ensures { result ≡ judge (timed_grounds number x (is_fixed (base_in m.now))
+fn seen_answer(
+    m: &[[u8; TOOL_BYTES]; BLOCKS],
+    number: u32,
+    x: Seen,
+    clock: u32,
+) -> Result<(), Refusal>
+    ensures { answer result ≡ judge (timed_grounds number x (is_fixed (base_in m.now))
         (get_or (predictions_from (own_in m.now)) x.stands no_prediction)
         (ltb clock (times_from (own_in m.now)).now)) }
 {
@@ -82,58 +98,38 @@ fn seen_answer(m: &[[u8; TOOL_BYTES]; BLOCKS], number: u32, x: Seen, clock: u32)
 }
 
 // The answer alone: nothing is taken.
-pub fn answer_alone(
-    m: &[[u8; TOOL_BYTES]; BLOCKS],
-    number: u32,
-    port: u32,
-    value: u32,
-    name: &[u8],
-    codes: &[u8],
-    clock: u32,
-) -> u8
+pub fn answer_alone(m: &[[u8; TOOL_BYTES]; BLOCKS], i: Input, clock: u32) -> Result<(), Refusal>
     requires m_value { sound_tool (predicted_in m.now) ≡ true }
-    requires number_value { is_timed number ≡ true }
-    ensures { result ≡ answer_in (state_of (predicted_in m.now))
-        (timed (input_of number port value name.now codes.now) clock 0) }
+    requires number_value { is_timed i.number ≡ true }
+    ensures { answer result ≡ answer_in (state_of (predicted_in m.now)) (timed (input_in i.entry) clock 0) }
 {
-    let x = look(&m[0], port, value, name, codes);
-    seen_answer(m, number, x, clock)
+    let x = look(&m[0], i);
+    seen_answer(m, i.number, x, clock)
 }
 
 // One of the four: the clock is taken, then what it says of the carrier that it names, and every carrier is judged.
 pub fn timed_step(
     m: &mut [[u8; TOOL_BYTES]; BLOCKS],
     o: &mut [u8; REPORTS_BYTES],
-    number: u32,
-    port: u32,
-    value: u32,
-    name: &[u8],
-    codes: &[u8],
-    clock: u32,
-    time: u32,
-) -> u8
+    i: Timed,
+) -> Result<(), Refusal>
     requires m_value { sound_tool (predicted_in m.old) ≡ true }
-    requires number_value { is_timed number ≡ true }
+    requires number_value { is_timed i.input.number ≡ true }
     ensures result_after { left m.new o.new result ≡ given_in (predicted_in m.old)
-        (timed (input_of number port value name.now codes.now) clock time) }
+        (timed_in i.entry) }
     ensures kept_outside { KeptOutside 0 1597 (own_in m.old) (own_in m.new) }
 {
-    blocks(m);
-    let x = look(&m[0], port, value, name, codes);
+    let x = look(&m[0], i.input);
     let t = times_at(&m[1]);
-    let answer = seen_answer(m, number, x, clock);
     no_reports(o);
-    if answer == 0 {
-        put_clock(&mut m[1], clock);
-        let then = Times {
-            now: clock,
-            setting: t.setting,
-            timeout: t.timeout,
-        };
-        let k = either(says_of(number), x.stands, x.count);
-        moved_along(m, o, number, then, time, k);
-        0
+    seen_answer(m, i.input.number, x, i.clock)?;
+    put_clock(&mut m[1], i.clock);
+    let then = Times { now: i.clock, ..t };
+    let k = if says_of(i.input.number) {
+        x.stands
     } else {
-        answer
-    }
+        x.count
+    };
+    moved_along(m, o, i.input.number, then, i.time, k);
+    Ok(())
 }

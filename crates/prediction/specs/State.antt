@@ -2,11 +2,12 @@
 use Rattle.std.specs.Prelude.{ℕ, Bool, cond, List, [], take, replicate, eqb}
 use Rattle.lists.specs.Lists.{fill}
 use Rattle.rules.specs.State as base
-use Rattle.rules.specs.Seen.{Input}
+use Rattle.rules.specs.Seen.{Input, input_in}
 use Rattle.queue.specs.State as queue
 use Rattle.queue.specs.State.{Queued, QueuedTool}
 use Rattle.prediction.specs.declared.prediction.Prediction.{Prediction}
 use Rattle.prediction.specs.declared.prediction.Times.{Times}
+use Rattle.prediction.specs.declared.input.Timed as sent
 use Rattle.prediction.specs.Predictions.{no_prediction, new_prediction}
 
 pub record Predicted : Type 0 where
@@ -42,6 +43,10 @@ pub record Timed : Type 0 where
 
 abbrev pub timed : Input → ℕ → ℕ → Timed
 timed i clock time = record { input = i; clock = clock; time = time }
+
+-- what the code was sent
+abbrev pub timed_in : sent.Timed → Timed
+timed_in i = timed (input_in i.input) i.clock i.time
 
 -- a fixed buffer tool: it alone has model 8
 abbrev pub is_fixed : base.State → Bool

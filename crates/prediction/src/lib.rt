@@ -1,4 +1,5 @@
 // Request P7: prediction of ready to unload.
 #![tactic(auto)]
 
+pub mod input;
 pub mod prediction;

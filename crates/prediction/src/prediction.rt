@@ -1,6 +1,7 @@
 // What is predicted of a carrier, and what its transitions ask.
 
 // Its state of model 8, whether it has a predicted time Tp and an estimate Te (0, 1), and these; seconds, 0 where there is none.
+// They stay beside their flags, as bytes that C lends: time_or_none in Sound tests them.
 #[derive(Clone, Copy)]
 pub struct Prediction {
     pub state: u8,

@@ -19,3 +19,4 @@ pub mod Allowed
 pub mod Named
 pub mod HeldBack
 pub mod Passed
+pub mod Ranges

@@ -3,21 +3,29 @@ use Prim.Native.Nat.{ℕ, ◌<◌, ◌≤◌}
 use native.Mathlib.Omega.{arith}
 use mathlib.Core.Path.{◌≡◌, refl, ap, sym, subst⁻¹, ◌∙◌}
 use mathlib.Core.Logic.{◌≢◌}
-use mathlib.Core.Bool.{Bool, true, false, cond}
+use mathlib.Core.Bool.{Bool, true, false, cond, true≢false}
 use mathlib.Core.List.{List, [], ◌∷◌}
 use lib.ListN.{length, get_or, set, take}
 use lib.Seq.{take_all, get_or-set_same, get_or-set_other}
 use lib.Dec.{eqb}
 use borrow.Author.Tests.{eqb-true, ne_eqb}
 use Rattle.lists.specs.Lists.{fill}
+use Rattle.std.specs.Prelude.{Result, Ok, Err}
+use Rattle.std.specs.Result.{is_err, result_and}
 use Rattle.records.specs.declared.name.Name.{Name}
+use Rattle.records.specs.declared.refusal.Refusal.{Refusal}
 use Rattle.records.specs.Names.{no_name}
+use Rattle.records.specs.declared.refusal.Refusal.TheVariants.{Conditions}
+use Rattle.records.specs.Refusals.{number, answer}
+use Rattle.rules.specs.declared.row.Seen.{Seen}
 use Rattle.rules.specs.declared.report.Reports.{Reports}
-use Rattle.rules.specs.Seen.{Input}
+use Rattle.rules.specs.State.{State}
+use Rattle.rules.specs.Seen.{Input, input_of, see}
 use Rattle.rules.specs.Row.{Ground, lower, lowest}
 use Rattle.rules.specs.Reports.{no_reports}
 use Rattle.rules.proofs.Holding as holding
 use Rattle.image.specs.Image.{tool_from, reports_from}
+use Rattle.machine.proofs.Refused.{never_zero}
 use Rattle.follow.specs.Follow.{KeptOutside}
 use Rattle.follow.proofs.Entries.{kept_all}
 use Rattle.maps.specs.State as maps-state
@@ -32,6 +40,7 @@ use Rattle.queue.specs.State.{Queued, base_of, QueuedTool, state_of, in_tool}
 use Rattle.queue.specs.Sound.{sound_tool}
 use Rattle.queue.specs.Rows.{Row, passed_on}
 use Rattle.queue.specs.Outcome.{row_in, answers_in, answer_in, state_after, goes_in, made_in, Given, beside, given_in}
+use Rattle.queue.proofs.HeldBack.{or_five}
 use Rattle.queue.proofs.Free.{nobody_last}
 use Rattle.queue.proofs.SoundRuns.{sound_parts, sound_after}
 use Rattle.queue.proofs.Ended.{accepted_is}
@@ -58,6 +67,20 @@ lower_none n = go (eqb n 0) refl
     go : (w : Bool) → eqb n 0 ≡ w → cond w 0 n ≡ n
     go true e = sym (eqb-true n 0 e)
     go false e = refl
+
+-- what is answered, by whether it is refused
+pub zero_of : (said : Result Unit Refusal) → is_err said ≡ false → answer said ≡ 0
+zero_of (Ok u) e = refl
+zero_of (Err r) e = absurd (true≢false e)
+
+pub not_zero_of : (said : Result Unit Refusal) → is_err said ≡ true → answer said ≢ 0
+not_zero_of (Ok u) e z = true≢false (sym e)
+not_zero_of (Err r) e z = never_zero r z
+
+-- what a row sees doesn't depend on the input's number
+pub see_number : (s : State) (n k p v : ℕ) (a b : List ℕ) (x : Seen) → x ≡ see s (input_of k p v a b) → x ≡ see s (input_of n p v a b)
+unfolding see
+see_number s n k p v a b x e = e
 
 -- the number that is given below is the answer there
 below_answer : (t : MappedTool) (j : Input) → (maps.given_in t j).answer ≡ maps.answer_in (maps-state.state_of t) j
@@ -100,13 +123,20 @@ module _ (m : List (List ℕ)) (h : sound_tool (queued_in m) ≡ true) (i : Inpu
   s = state_of t
 
   -- what is left where nothing moves
-  abbrev Stays : ℕ → Moved → Type 0
+  abbrev Stays : Result Unit Refusal → Moved → Type 0
   Stays a r = r ≡ record { answer = a; goes = (tool m h).count; made = false; gone = no_name }
 
-  pub refused_left : (a : ℕ) (o : List ℕ) (r : Moved) → answer_in s i ≡ a → a ≢ 0 → Stays a r → reports_from o ≡ no_reports
+  pub refused_left : (a : Refusal) (o : List ℕ) (r : Moved) → answer_in s i ≡ number a → Stays (Err a) r → reports_from o ≡ no_reports
       → (left m o r ≡ given_in t i) × KeptOutside 0 1189 (own_in m) (own_in m)
   unfolding given_in
-  refused_left a o r e n p q = (rw (p, q, e, ne_eqb a 0 n), kept_all 0 1189 (own_in m))
+  refused_left a o r e p q = (rw (p, q, e, ne_eqb (number a) 0 (never_zero a)), kept_all 0 1189 (own_in m))
+
+  -- refused with what refuses it, or else with 5
+  pub conditions_left : (said : Result Unit Refusal) (o : List ℕ) (r : Moved) → answer_in s i ≡ or_five (answer said)
+      → Stays (result_and said (Err Conditions)) r → reports_from o ≡ no_reports
+      → (left m o r ≡ given_in t i) × KeptOutside 0 1189 (own_in m) (own_in m)
+  conditions_left (Ok u) o r e p q = refused_left Conditions o r e p q
+  conditions_left (Err a) o r e p q = refused_left a o r (rw (ne_eqb (number a) 0 (never_zero a)) at e) p q
 
   -- refused below with the same number
   pub below_refused : (a : ℕ) (n : List (List ℕ)) (o : List ℕ) (r : Moved) → maps.answer_in s.mapped i ≡ a → answer_in s i ≡ a → a ≢ 0
@@ -149,7 +179,7 @@ module _ (m : List (List ℕ)) (h : sound_tool (queued_in m) ≡ true) (i : Inpu
 
     -- accepted: another queue in the second block
     pub alone_left : lowest gs ≡ 0 → (w o : List ℕ) (r : Moved) → 1 < length m → KeptOutside 900 1189 (own_in m) w → Holds w q
-        → r ≡ record { answer = 0; goes = (tool_from (get_or (set m 1 w) 0 [])).count; made = false; gone = no_name }
+        → r ≡ record { answer = Ok tt; goes = (tool_from (get_or (set m 1 w) 0 [])).count; made = false; gone = no_name }
         → reports_from o ≡ no_reports
         → (left (set m 1 w) o r ≡ given_in t i) × KeptOutside 0 1189 (own_in m) (own_in (set m 1 w))
     alone_left z w o r two k l p e =
@@ -164,21 +194,21 @@ module _ (m : List (List ℕ)) (h : sound_tool (queued_in m) ≡ true) (i : Inpu
       (n : List (List ℕ)) (o : List ℕ) (r : Moved)
       (e : left n o r ≡ beside (waiting_in (own_in m)) (queue_from (own_in m)) (maps.given_in (mapped_in m) j))
       (k : KeptOutside 0 900 (own_in m) (own_in n)) where
-    answer_below : maps.answer_in s.mapped j ≡ r.answer
+    answer_below : maps.answer_in s.mapped j ≡ answer r.answer
     answer_below = sym (below_answer (mapped_in m) j) ∙ sym (ap (λ (g : Given). g.answer) e)
 
-    pub one_refused : r.answer ≢ 0 → (left n o r ≡ given_in t i) × KeptOutside 0 1189 (own_in m) (own_in n)
+    pub one_refused : answer r.answer ≢ 0 → (left n o r ≡ given_in t i) × KeptOutside 0 1189 (own_in m) (own_in n)
     one_refused d = (
       e ∙ refused_given t h (queue_long (own_in m)) i j gs q row clear (rw answer_below (ne_eqb _ 0 d)),
       kept_wider (omega arith) (omega arith) k,
     )
 
-    answer_zero : r.answer ≡ 0 → answer_in s i ≡ 0
+    answer_zero : answer r.answer ≡ 0 → answer_in s i ≡ 0
     unfolding answer_in answers_in lower maps-runs.reached
     answer_zero z = rw (row, clear, answer_below, z)
 
     -- accepted: the queue that follows
-    pub one_left : r.answer ≡ 0 → (w : List ℕ) → 1 < length n → KeptOutside 900 1189 (own_in n) w → Holds w q
+    pub one_left : answer r.answer ≡ 0 → (w : List ℕ) → 1 < length n → KeptOutside 900 1189 (own_in n) w → Holds w q
         → (left (set n 1 w) o r ≡ given_in t i) × KeptOutside 0 1189 (own_in m) (own_in (set n 1 w))
     one_left z w two kw l =
         let f = few_then _ row (answer_zero z) in (
@@ -188,7 +218,7 @@ module _ (m : List (List ℕ)) (h : sound_tool (queued_in m) ≡ true) (i : Inpu
       where
         besides : record {
           tool = record { mapped = mapped_in n; waiting = length (take 16 q); queue = fill 16 no_request q };
-          answer = r.answer;
+          answer = answer r.answer;
           reports = reports_from o;
           goes = r.goes;
           made = r.made;

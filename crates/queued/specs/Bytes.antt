@@ -1,5 +1,6 @@
 -- The tool with its queue, in two blocks of 1,891 bytes.
 use Rattle.std.specs.Prelude.{ℕ, List}
+use Rattle.records.specs.Refusals.{answer}
 use Rattle.image.specs.Image.{reports_from}
 use Rattle.mapped.specs.declared.step.Moved.{Moved}
 use Rattle.mapped.specs.Bytes.{own_in, mapped_in}
@@ -12,4 +13,4 @@ queued_in m = record { mapped = mapped_in m; waiting = waiting_in (own_in m); qu
 
 -- what a step leaves: the bytes of the tool and of the reports, and what it hands up
 abbrev pub left : List (List ℕ) → List ℕ → Moved → Given
-left m o r = record { tool = queued_in m; answer = r.answer; reports = reports_from o; goes = r.goes; made = r.made; gone = r.gone }
+left m o r = record { tool = queued_in m; answer = answer r.answer; reports = reports_from o; goes = r.goes; made = r.made; gone = r.gone }

@@ -1,7 +1,7 @@
 // An input that goes on below, with the queue beside it; and one that leaves nothing to report.
 ghost use Rattle.std.specs.Prelude.{◌≡◌, true, false};
 ghost use Rattle.records.specs.Names.{no_name};
-ghost use Rattle.rules.specs.Seen.{input_of};
+ghost use Rattle.rules.specs.Seen.{input_in};
 ghost use Rattle.rules.specs.Reports.{no_reports};
 ghost use Rattle.image.specs.Image.{tool_from, reports_from};
 ghost use Rattle.follow.specs.Follow.{KeptOutside};
@@ -17,39 +17,33 @@ use image::layout::*;
 use image::read::count;
 use image::report::no_reports;
 use mapped::step::{Moved, step_sound};
-use records::choose::wide;
 use records::name::Name;
-
-// Lent as a slice, an array's length is known from then on.
-pub fn blocks(m: &[[u8; TOOL_BYTES]]) {}
+use records::refusal::Refusal;
+use rules::input::Input;
 
 // An answer with nothing to report, and no record that goes or is made.
-pub fn unmoved(m: &[u8; TOOL_BYTES], o: &mut [u8; REPORTS_BYTES], answer: u8) -> Moved
+pub fn unmoved(
+    m: &[u8; TOOL_BYTES],
+    o: &mut [u8; REPORTS_BYTES],
+    answer: Result<(), Refusal>,
+) -> Moved
     ensures value { result ≡ record { answer = answer; goes = (tool_from m.now).count; made = false; gone = no_name } }
     ensures o_after { reports_from o.new ≡ no_reports }
 {
     no_reports(o);
     Moved {
         answer,
-        goes: wide(count(m)),
+        goes: usize::from(count(m)),
         made: false,
         gone: Name::none(),
     }
 }
 
-pub fn passed_on(
-    m: &mut [[u8; TOOL_BYTES]; BLOCKS],
-    o: &mut [u8; REPORTS_BYTES],
-    number: u32,
-    port: u32,
-    value: u32,
-    name: &[u8],
-    codes: &[u8],
-) -> Moved
+pub fn passed_on(m: &mut [[u8; TOOL_BYTES]; BLOCKS], o: &mut [u8; REPORTS_BYTES], i: Input) -> Moved
     requires { sound_tool (mapped_in m.old) ≡ true }
     ensures result_after { left m.new o.new result ≡ beside (waiting_in (own_in m.old))
-        (queue_from (own_in m.old)) (given_in (mapped_in m.old) (input_of number port value name.now codes.now)) }
+        (queue_from (own_in m.old)) (given_in (mapped_in m.old) (input_in i.entry)) }
     ensures kept_outside { KeptOutside 0 900 (own_in m.old) (own_in m.new) }
 {
-    step_sound(m, o, number, port, value, name, codes)
+    step_sound(m, o, i)
 }

@@ -1,10 +1,10 @@
 // A carrier record answers each input with the record that follows it.
+// Some are alike but for the fields that they set: which these are is what each definition says, and no parameter can name a field.
 ghost use Rattle.std.specs.Prelude.{◌≡◌};
 ghost use Rattle.records.specs.Carriers.{no_carrier, new_carrier, placed_at, proceeded, judged_no, cancelled_by};
 ghost use Rattle.records.specs.Carriers.{taken_out, taken_back, moved_in, with_map};
 ghost use Rattle.records.specs.Fields.{with_id, with_opened, with_accessing};
 
-use crate::choose::first;
 use crate::name::Name;
 use crate::sizes::*;
 use crate::words::*;
@@ -30,19 +30,15 @@ impl Carrier {
     pub fn none() -> Carrier
         ensures { result ≡ no_carrier }
     {
-        let name = Name {
-            bytes: [0; NAME_BYTES],
-        };
-        let map = [0; SLOTS];
         Carrier {
-            name,
+            name: Name::none(),
             place: 0,
             spot: 0,
             port: 0,
             opened: 0,
             cancelled: 0,
             cameout: 0,
-            map,
+            map: [0; SLOTS],
             id: 0,
             slot: 0,
             accessing: 0,
@@ -53,7 +49,6 @@ impl Carrier {
     pub fn fresh(name: Name, port: u8) -> Carrier
         ensures { result ≡ new_carrier name port }
     {
-        let map = [0; SLOTS];
         Carrier {
             name,
             place: EXPECTED,
@@ -62,7 +57,7 @@ impl Carrier {
             opened: CLOSED,
             cancelled: OFF,
             cameout: OFF,
-            map,
+            map: [0; SLOTS],
             id: NOT_READ,
             slot: NOT_READ,
             accessing: NOT_ACCESSED,
@@ -88,39 +83,39 @@ impl Carrier {
     }
 
     // The host says yes: the ID that waits is OK, else the slot map is.
-    pub fn proceeded(self) -> Carrier
+    pub fn proceeded(mut self) -> Carrier
         ensures { result ≡ proceeded self }
     {
-        let waits = self.id == WAITING;
-        let mut c = self;
-        c.id = first(waits, OK, self.id);
-        c.slot = first(waits, self.slot, OK);
-        c
+        if self.id == WAITING {
+            self.id = OK;
+        } else {
+            self.slot = OK;
+        }
+        self
     }
 
     // The host says no: the ID that waits is FAILED, else the slot map that waits is.
-    pub fn judged_no(self) -> Carrier
+    pub fn judged_no(mut self) -> Carrier
         ensures { result ≡ judged_no self }
     {
-        let mut c = self;
-        c.id = first(self.id == WAITING, FAILED, self.id);
-        c.slot = first(
-            (self.id != WAITING) & (self.slot == WAITING),
-            FAILED,
-            self.slot,
-        );
-        c
+        if self.id == WAITING {
+            self.id = FAILED;
+        } else if self.slot == WAITING {
+            self.slot = FAILED;
+        }
+        self
     }
 
     // Cancelled and closed; came-out goes off unless it stays.
-    pub fn cancelled_by(self, stays: bool) -> Carrier
+    pub fn cancelled_by(mut self, stays: bool) -> Carrier
         ensures { result ≡ cancelled_by stays self }
     {
-        let mut c = self;
-        c.opened = CLOSED;
-        c.cancelled = ON;
-        c.cameout = first(stays, self.cameout, OFF);
-        c
+        self.opened = CLOSED;
+        self.cancelled = ON;
+        if !stays {
+            self.cameout = OFF;
+        }
+        self
     }
 
     // Out of the buffer to port p.

@@ -2,11 +2,10 @@
 #![tactic(auto)]
 
 pub mod carrier;
-pub mod choose;
-pub mod fill;
 pub mod map;
 pub mod name;
 pub mod port;
 pub mod refusal;
 pub mod sizes;
+pub mod table;
 pub mod words;

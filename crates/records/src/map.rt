@@ -2,32 +2,20 @@
 ghost use Rattle.std.specs.Prelude.{◌≡◌};
 ghost use Rattle.records.specs.Maps.{is_map, in_map};
 
-use crate::fill::fill;
 use crate::sizes::*;
+use crate::table::in_table;
 
 // Whether codes of any length are a slot map.
 pub fn is_map(codes: &[u8]) -> bool
     ensures { result ≡ is_map codes.now }
 {
-    let n = codes.len();
-    if n != SLOTS {
-        return false;
-    }
-    let mut good = true;
-    let mut i = n;
-    while 0 < i {
-        i -= 1;
-        let a = codes[i];
-        good = (a <= CODE_GREATEST) & good;
-    }
-    good
+    codes.len() == SLOTS && codes.iter().all(|code| *code <= CODE_GREATEST)
 }
 
 // The first 25 codes, with zeros after fewer.
+#[tactic(auto, unfolding(crate::specs::Maps::in_map))]
 pub fn in_map(codes: &[u8]) -> [u8; SLOTS]
     ensures { result ≡ in_map codes.now }
 {
-    let mut map = [0; SLOTS];
-    fill(&mut map, codes);
-    map
+    in_table(codes)
 }

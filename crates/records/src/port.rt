@@ -1,4 +1,5 @@
 // A port record answers each input with the port that follows it.
+// Some are alike but for the fields that they set: which these are is what each definition says, and no parameter can name a field.
 ghost use Rattle.std.specs.Prelude.{◌≡◌};
 ghost use Rattle.records.specs.Ports.{no_port, new_port, bound_to, unbound, to_unload, handed_out, to_blocked};
 ghost use Rattle.records.specs.Ports.{start_load, loaded, not_loaded, tag_read, tag_not_read, emptied};
@@ -6,7 +7,6 @@ ghost use Rattle.records.specs.Ports.{start_unload, not_unloaded};
 ghost use Rattle.records.specs.Fields.{tied_to, with_access, with_transfer, with_reserved};
 
 use crate::name::Name;
-use crate::sizes::NAME_BYTES;
 use crate::words::*;
 
 // tie: a carrier's name, or all zeros; the states are in `words`.
@@ -26,14 +26,11 @@ impl Port {
     pub fn none() -> Port
         ensures { result ≡ no_port }
     {
-        let tie = Name {
-            bytes: [0; NAME_BYTES],
-        };
         Port {
             transfer: 0,
             access: 0,
             reserved: 0,
-            tie,
+            tie: Name::none(),
             movement: 0,
             pod: 0,
             tag: 0,
@@ -44,14 +41,11 @@ impl Port {
     pub fn fresh() -> Port
         ensures { result ≡ new_port }
     {
-        let tie = Name {
-            bytes: [0; NAME_BYTES],
-        };
         Port {
             transfer: READY_TO_LOAD,
             access: MANUAL,
             reserved: NOT_RESERVED,
-            tie,
+            tie: Name::none(),
             movement: IDLE,
             pod: NO_POD,
             tag: TAG_UNREAD,
@@ -71,11 +65,8 @@ impl Port {
     pub fn unbound(mut self) -> Port
         ensures { result ≡ unbound self }
     {
-        let tie = Name {
-            bytes: [0; NAME_BYTES],
-        };
         self.reserved = NOT_RESERVED;
-        self.tie = tie;
+        self.tie = Name::none();
         self
     }
 
@@ -188,11 +179,8 @@ impl Port {
     pub fn emptied(mut self) -> Port
         ensures { result ≡ emptied self }
     {
-        let tie = Name {
-            bytes: [0; NAME_BYTES],
-        };
         self.transfer = READY_TO_LOAD;
-        self.tie = tie;
+        self.tie = Name::none();
         self.movement = IDLE;
         self.pod = NO_POD;
         self.tag = TAG_UNREAD;

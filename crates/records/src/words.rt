@@ -1,6 +1,6 @@
-// Document 01's words for the numbers of states. Answers and the models of reports are numbers in its rows, and so in the code:
-// 1 out of range, 2 no record, 3 the name is taken, 4 reserved or tied, 5 conditions on state, 6 too many are expected,
-// 7 not verified, 8 the place or the opener is taken; 1 transfer, 2 access, 3 reservation, 4 tie, 5 ID, 6 slot, 7 accessing.
+// Document 01's words for the numbers of states; why an input is refused is in `refusal`. The models of reports are numbers in
+// its rows, and so in the code: 1 transfer, 2 access, 3 reservation, 4 tie, 5 ID, 6 slot, 7 accessing.
+// States are numbers and no enums: the C interface (`hm_waiting`, a lent tool) hands any byte, and `sound` judges it.
 
 // a port's transfer; BLOCKED is TRANSFER BLOCKED
 pub const OUT_OF_SERVICE: u8 = 0;

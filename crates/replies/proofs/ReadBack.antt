@@ -13,9 +13,8 @@ use borrow.Author.Tests.{leb-true, lt-ltb, eq-eqb}
 use Rattle.lists.proofs.Bools.{cond_ind}
 use Rattle.items.specs.Formats.{size_of, uneven}
 use Rattle.items.specs.Tree.{in_order}
-use Rattle.items.specs.Reading.{read_message, walked}
+use Rattle.items.specs.Reading.{read_message, Walked, walked}
 use Rattle.items.specs.Written.{in_bytes, shortest, count_of, within}
-use Rattle.items.specs.declared.walk.Walk.{Walk}
 use Rattle.items.proofs.ReadBack.{Back, read_back, shortest_fits}
 use Rattle.replies.specs.Texts.{text_for}
 use Rattle.replies.specs.Reply.{refused_with, reply_to, reply_text, answer_in, room_after, written_in, Wrote}
@@ -65,6 +64,6 @@ module _ (n : ℕ) {room after : List ℕ} {answer told : ℕ} (w : Wrote room (
   pub written_back : Back (reply_to n) (take told after) 0 0 told (read_message (take told after))
   written_back = rw (text_stands, told_is) (rw (append-nil (reply_text n)) at (reply_back n []))
 
-  pub walks_back : (r : Walk) → r ≡ walked (read_message (take told after))
+  pub walks_back : (r : Walked) → r ≡ walked (read_message (take told after))
       → (r.refusal ≡ 0) × (r.at ≡ told) × (r.count ≡ count_of (reply_to n))
   walks_back r e = rw e (written_back.accepted, written_back.ends ∙ zero-add told, written_back.begins ∙ zero-add _)

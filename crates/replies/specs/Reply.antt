@@ -1,5 +1,8 @@
 -- S3F18: the answer to a message as a tree of items, its text, and the room after it was written.
 use Rattle.std.specs.Prelude.{ℕ, ◌/◌, ◌%◌, ◌≡◌, Bool, cond, ◌&&◌, ◌||◌, List, [], ◌∷◌, ◌++◌, length, drop, eqb, leb, ltb}
+use Rattle.std.specs.Prelude.{Result, Ok, Err}
+use Rattle.records.specs.Refusals.{number}
+use Rattle.records.specs.declared.refusal.Refusal.{Refusal}
 use Rattle.items.specs.Formats.{ASCII, U1, U2}
 use Rattle.items.specs.Tree.{Item, Items, ◌then◌}
 use Rattle.items.specs.Tree.Item.{leaf, list}
@@ -69,3 +72,12 @@ pub record Wrote (room t : List ℕ) (answer : ℕ) (after : List ℕ) (told : �
   pub answered : answer ≡ answer_in room t
   pub left : after ≡ room_after room t
   pub many : told ≡ written_in room t
+
+-- a result that says how many bytes were written: the number that is answered, and how many
+abbrev pub answer_of : Result ℕ Refusal → ℕ
+answer_of (Ok n) = 0
+answer_of (Err r) = number r
+
+abbrev pub many_of : Result ℕ Refusal → ℕ
+many_of (Ok n) = n
+many_of (Err r) = 0

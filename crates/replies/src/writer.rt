@@ -1,26 +1,29 @@
 // The text of S3F18 for an answer, written into room that the caller lends: its length is known before a byte is written.
 ghost use Rattle.std.specs.Prelude.{◌≡◌, ◌≤◌, length};
-ghost use Rattle.replies.specs.Reply.{acknowledge, code_of, refused_with, text_of, reply_text, head_of, Wrote};
+ghost use Rattle.replies.specs.Reply.{acknowledge, code_of, refused_with, text_of, reply_text, head_of, answer_of, many_of, Wrote};
 
 use image::write::put;
-use records::choose::*;
-
-pub const ROOM_TOO_SMALL: u8 = 14;
+use records::refusal::Refusal;
 
 // The text for an accepted input, the shortest of all.
 pub const ACCEPTED_BYTES: usize = 7;
 
+#[tactic(auto, unfolding(crate::specs::Reply::acknowledge))]
 fn ack_of(number: u32) -> u8
     ensures { result ≡ acknowledge number }
 {
-    let refused = first((number == 1) | ((20 <= number) & (number <= 26)), 3, 5);
-    first(number == 0, 0, refused)
+    match number {
+        0 => 0,
+        1 | 20..=26 => 3,
+        _ => 5,
+    }
 }
 
-fn code_of(number: u32) -> u32
+#[tactic(auto, unfolding(crate::specs::Reply::code_of))]
+fn code_of(number: u32) -> u16
     ensures { result ≡ code_of number }
 {
-    if number < 65536 { number } else { 65535 }
+    u16::try_from(number).unwrap_or(u16::MAX)
 }
 
 // All of a refusal's text but the words: list, acknowledge, list, pair, code, and the head of the words.
@@ -28,39 +31,32 @@ fn head_of(number: u32, many: u8) -> [u8; 15]
     ensures { result ≡ head_of number many }
 {
     let ack = ack_of(number);
-    let code = code_of(number);
-    let high = (code / 256) as u8;
-    let low = (code % 256) as u8;
+    let [high, low] = code_of(number).to_be_bytes();
     [
         1, 2, 0xA5, 1, ack, 1, 1, 1, 2, 0xA9, 2, high, low, 0x41, many,
     ]
 }
 
-pub fn accepted(room: &mut [u8], told: &mut u32) -> u8
-    ensures { Wrote room.old (reply_text 0) result room.new told.new }
+pub fn accepted(room: &mut [u8]) -> Result<u32, Refusal>
+    ensures { Wrote room.old (reply_text 0) (answer_of result) room.new (many_of result) }
 {
     if room.len() < ACCEPTED_BYTES {
-        *told = 0;
-        return ROOM_TOO_SMALL;
+        return Err(Refusal::RoomTooSmall);
     }
     put(room, 0, b"\x01\x02\xA5\x01\x00\x01\x00");
-    *told = ACCEPTED_BYTES as u32;
-    0
+    Ok(ACCEPTED_BYTES as u32)
 }
 
-pub fn refused(number: u32, words: &[u8], room: &mut [u8], told: &mut u32) -> u8
+pub fn refused(number: u32, words: &[u8], room: &mut [u8]) -> Result<u32, Refusal>
     requires { length words.now ≤ 80 }
     ensures { Wrote room.old (text_of (refused_with number words.now))
-        result room.new told.new }
+        (answer_of result) room.new (many_of result) }
 {
     let n = words.len();
     if room.len() < 15 + n {
-        *told = 0;
-        return ROOM_TOO_SMALL;
+        return Err(Refusal::RoomTooSmall);
     }
-    let head = head_of(number, n as u8);
-    put(room, 0, &head);
+    put(room, 0, &head_of(number, n as u8));
     put(room, 15, words);
-    *told = (15 + n) as u32;
-    0
+    Ok((15 + n) as u32)
 }

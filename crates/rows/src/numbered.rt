@@ -1,5 +1,6 @@
-// The 26 inputs by number.
+// The 26 inputs by number: document 01's numbers are the names of its rows, and C hands any number.
 ghost use Rattle.std.specs.Prelude.{◌≡◌};
+ghost use Rattle.records.specs.Refusals.{answer};
 ghost use Rattle.rules.specs.Row.{judge};
 ghost use Rattle.rules.specs.Rows.{row_of};
 
@@ -33,12 +34,14 @@ use ports::transfer::{
     unload_fail_effect, unload_start_answer, unload_start_effect,
 };
 use records::port::Port;
+use records::refusal::Refusal;
 use records::words::NO_PORT;
 use rules::row::{Effect, Seen};
 
-// What an input is refused for, 0 where it is accepted: the lowest number that applies.
-pub fn answer_of(number: u32, x: Seen) -> u8
-    ensures { result ≡ judge (row_of number x).grounds }
+// What an input is refused for: the first ground of its row that applies.
+#[tactic(auto, unfolding(rules::specs::Rows::row_of))]
+pub fn answer_of(number: u32, x: Seen) -> Result<(), Refusal>
+    ensures { answer result ≡ judge (row_of number x).grounds }
 {
     match number {
         1 => bind_answer(x),
@@ -67,11 +70,12 @@ pub fn answer_of(number: u32, x: Seen) -> u8
         24 => unload_start_answer(x),
         25 => unload_done_answer(x),
         26 => unload_fail_answer(x),
-        _ => 1,
+        _ => Err(Refusal::OutOfRange),
     }
 }
 
 // What an accepted input changes.
+#[tactic(auto, unfolding(rules::specs::Rows::row_of))]
 pub fn effect_of(number: u32, x: Seen) -> Effect
     ensures { result ≡ (row_of number x).effect }
 {

@@ -25,6 +25,10 @@ input_of number port value name codes = record { number = number; port = port; v
 abbrev pub input_in : sent.Input → Input
 input_in i = input_of i.number i.port i.value i.name.now i.codes.now
 
+-- the same under another number: a row of that number reads the rest
+abbrev pub numbered : ℕ → sent.Input → Input
+numbered n i = input_of n i.port i.value i.name.now i.codes.now
+
 -- No port, place or value is as large as 255, so that 255 stands for all that is larger.
 unfoldable pub narrow : ℕ → ℕ
 narrow n = cond (ltb n 255) n 255

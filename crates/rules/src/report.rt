@@ -14,6 +14,7 @@ pub struct Report {
     pub new: u8,
 }
 
+// How many there are stands beside the table: C lends it whole.
 #[repr(C)]
 #[derive(Clone, Copy)]
 pub struct Reports {
@@ -21,6 +22,7 @@ pub struct Reports {
     pub items: [Report; REPORTS],
 }
 
+// The answer is document 01's number: `outcome` and the theorems on it speak of it.
 #[repr(C)]
 #[derive(Clone, Copy)]
 pub struct Outcome {

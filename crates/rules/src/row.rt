@@ -1,4 +1,5 @@
-// What a row may look at, and what it does.
+// What a row may look at, and what it does. Flags and positions stand beside what they tell of, since `see` fills them and
+// the rows of specs/ and `enact` read them one by one, as in `when x.known 3`.
 use records::carrier::Carrier;
 use records::name::Name;
 use records::port::Port;

@@ -3,6 +3,7 @@ use records::carrier::Carrier;
 use records::port::Port;
 use records::sizes::{PORTS, RECORDS};
 
+// C lends a tool whole, so each number stands beside its table, and a state is any byte until it is found sound.
 // used: how many ports; places: how many buffer places; count: how many records. Past these all is zero.
 #[repr(C)]
 #[derive(Clone, Copy)]
@@ -14,7 +15,7 @@ pub struct Tool {
     pub carriers: [Carrier; RECORDS],
 }
 
-// What set-up gives.
+// What set-up gives. The answer is a number, as in `set_up`.
 #[repr(C)]
 #[derive(Clone, Copy)]
 pub struct Setup {

@@ -1,65 +1,62 @@
 -- The four answers to a message: 20 to 24, 25, 26, and what the tool gets.
-use Prim.Native.Nat.{ℕ, zero, suc, ◌+◌, ◌≤◌, ◌<◌}
-use native.Mathlib.Omega.{arith}
+use Prim.Native.Nat.{ℕ, ◌≤◌, ◌<◌}
 use mathlib.Core.Path.{◌≡◌, refl, ap, sym, ◌∙◌}
 use mathlib.Core.Bool.{Bool, true, false, not, cond, ◌&&◌}
 use mathlib.Core.List.{List}
-use lib.ListN.{length, replicate}
+use lib.ListN.{length}
 use lib.Dec.{eqb}
 use borrow.Author.Tests.{eq-eqb, ne_eqb, lt-ltb, le-ltb}
-use Rattle.maps.specs.Expected.{carries}
-use Rattle.items.specs.Heads.{head_at}
-use Rattle.items.specs.Reading.{read_message, walked}
-use Rattle.items.specs.declared.walk.Walk.{Walk}
+use Rattle.items.specs.Reading.{read_message, Walked, walked}
+use Rattle.std.specs.Prelude.{Option, None, Result, Ok, Err}
+use Rattle.std.specs.Result.{is_err}
+use Rattle.std.specs.Option.{ok_or}
+use Rattle.records.specs.Refusals.{number}
+use Rattle.records.specs.declared.refusal.Refusal.{Refusal}
+use Rattle.records.specs.declared.refusal.Refusal.TheVariants as refusal
+use Rattle.items.proofs.Refusals.{numbered}
+use Rattle.secs.specs.declared.text.Action.{Action}
+use Rattle.secs.specs.declared.text.Action.TheVariants as action
+use Rattle.secs.specs.Actions.{row_of_action}
 use Rattle.secs.specs.Shape.{in_shape}
 use Rattle.secs.specs.Request.{refusal_in, request_in, Handed}
-use Rattle.secs.specs.InPlace.{parts_at, shape_at, row_at, has_map_at, codes_at, taken_at, not_taken}
+use Rattle.secs.specs.InPlace.{parts_at, shape_at, row_at, taken_at}
 use Rattle.secs.specs.declared.parts.Parts.{Parts}
-use Rattle.secs.specs.declared.request.Request.{Request}
+use Rattle.lists.proofs.Bools.{clash}
 use Rattle.secs.proofs.Shaped.{Taken, shape_is, taken_is}
 
-as_many : (m : List ℕ) (n at : ℕ) → length (codes_at m n at) ≡ n
-unfolding codes_at
-as_many m zero at = refl
-as_many m (suc n) at = ap suc (as_many m n ((head_at m at).body + (head_at m at).many))
-
-few : (b : Bool) (m : List ℕ) (at : ℕ) → cond b 25 0 ≤ length (cond b (codes_at m 25 at) (replicate 25 0))
-few true m at = let e = as_many m 25 at in omega arith
-few false m at = omega arith
-
 module _ (m : List ℕ) where
-  not_taken_fact : (n : ℕ) → refusal_in m ≡ n → (n ≡ 0 → ⊥) → Handed m (not_taken n (read_message m).count)
+  not_taken : (r : Refusal) → refusal_in m ≡ number r → Handed m (record { count = (read_message m).count; said = Err r })
   unfolding request_in
-  not_taken_fact n e z = record {
+  not_taken r e = record {
     refused = sym e;
     counted = refl;
-    input = rw (e, ne_eqb n 0 z);
-    inside = omega arith;
-    few = omega arith;
+    input = rw (e, ne_eqb (number r) 0 (numbered r));
+    inside = tt;
   }
 
-  taken : {o : (read_message m).refusal ≡ 0} → refusal_in m ≡ 0 → Taken m o
-      → Handed m (taken_at m (parts_at m) (row_at m (parts_at m).action) (read_message m).count)
+  taken : {o : (read_message m).refusal ≡ 0} → refusal_in m ≡ 0 → Taken m o → (a : Action) → row_of_action a ≡ row_at m (parts_at m).action
+      → Handed m (record { count = (read_message m).count; said = Ok (taken_at m (parts_at m) a) })
   unfolding request_in taken_at
-  taken n k = record {
+  taken n k a e = record {
     refused = sym n;
     counted = refl;
-    input = k.input (read_message m).count ∙ rw n;
+    input = k.input a e ∙ rw n;
     inside = k.inside;
-    few = few (carries (row_at m (parts_at m).action) && has_map_at m (parts_at m).pairs) m _;
   }
 
-  module _ (w : Walk) (e : w ≡ walked (read_message m)) (r : Request) where
-    pub in_reading : (w.refusal ≡ 0 → ⊥) → r ≡ not_taken w.refusal w.count → Handed m r
+  module _ (w : Walked) (e : w ≡ walked (read_message m)) where
+    pub in_reading : (r : Refusal) → w.refusal ≡ number r → Handed m (record { count = w.count; said = Err r })
     unfolding refusal_in
-    in_reading z q = let n = rw e at z in rw (q, e) (not_taken_fact (read_message m).refusal (rw (ne_eqb _ 0 n)) n)
+    in_reading r q =
+        let n : (read_message m).refusal ≡ number r = rw e at q in
+        rw e (not_taken r (rw (n, ne_eqb (number r) 0 (numbered r))))
 
-    pub left_over : w.refusal ≡ 0 → w.at < length m → r ≡ not_taken 25 w.count → Handed m r
+    pub left_over : w.refusal ≡ 0 → w.at < length m → Handed m (record { count = w.count; said = Err refusal.BytesLeftOver })
     unfolding refusal_in
-    left_over z l q =
+    left_over z l =
         let o : (read_message m).refusal ≡ 0 = rw e at z in
         let k : (read_message m).at < length m = rw e at l in
-        rw (q, e) (not_taken_fact 25 (rw (eq-eqb _ 0 o, lt-ltb _ _ k)) (λ h. omega arith))
+        rw e (not_taken refusal.BytesLeftOver (rw (eq-eqb _ 0 o, lt-ltb _ _ k)))
 
     module _ (z : w.refusal ≡ 0) (l : length m ≤ w.at) (p : Parts) (f : p ≡ parts_at m) (row : ℕ) (g : row ≡ row_at m p.action)
         (s : Bool)
@@ -74,11 +71,46 @@ module _ (m : List ℕ) where
       unfolding refusal_in
       whole = let k : length m ≤ (read_message m).at = rw e at l in rw (eq-eqb _ 0 o, le-ltb _ _ k)
 
-      pub other_shape : (s && w.single && not (eqb row 0)) ≡ false → r ≡ not_taken 26 w.count → Handed m r
-      other_shape t q = let i : in_shape m (read_message m).found ≡ false = sym shaped ∙ t in rw (q, e) (not_taken_fact 26 (whole ∙ rw i)
-          (λ h. omega arith))
+      pub other_shape : (s && w.single && not (eqb row 0)) ≡ false → Handed m (record { count = w.count; said = Err refusal.ShapeOrAction })
+      other_shape t =
+          let i : in_shape m (read_message m).found ≡ false = sym shaped ∙ t in
+          rw e (not_taken refusal.ShapeOrAction (whole ∙ rw i))
 
-      pub in_shape_fact : (s && w.single && not (eqb row 0)) ≡ true → r ≡ taken_at m p row w.count → Handed m r
-      in_shape_fact t q =
+      pub in_shape_fact : (a : Action) → row_of_action a ≡ row → (s && w.single && not (eqb row 0)) ≡ true
+          → Handed m (record { count = w.count; said = Ok (taken_at m p a) })
+      in_shape_fact a h t =
           let i : in_shape m (read_message m).found ≡ true = sym shaped ∙ t in
-          rw (q, g, f, e) (taken (whole ∙ rw i) (taken_is m o i))
+          let r : row_of_action a ≡ row_at m (parts_at m).action = rw (← f) (h ∙ g) in
+          rw (f, e) (taken (whole ∙ rw i) (taken_is m o i) a r)
+
+-- ── What a ground has said ──
+abbrev Said : Result Unit Refusal → Result Unit Refusal → Type 0
+Said s t = s ≡ t
+
+pub when_refused : (b : Bool) (r e : Refusal) → Said (cond b (Err r) (Ok tt)) (Err e) → (b ≡ true) × (r ≡ e)
+when_refused true r e q = (refl, cc)
+when_refused false r e q = clash refl (sym (ap is_err q))
+
+pub when_passed : (b : Bool) (r : Refusal) → Said (cond b (Err r) (Ok tt)) (Ok tt) → b ≡ false
+when_passed true r q = clash refl (ap is_err q)
+when_passed false r q = refl
+
+pub unless_refused : (b : Bool) (r e : Refusal) → Said (cond b (Ok tt) (Err r)) (Err e) → (b ≡ false) × (r ≡ e)
+unless_refused true r e q = clash refl (sym (ap is_err q))
+unless_refused false r e q = (refl, cc)
+
+pub unless_passed : (b : Bool) (r : Refusal) → Said (cond b (Ok tt) (Err r)) (Ok tt) → b ≡ true
+unless_passed true r q = refl
+unless_passed false r q = clash refl (ap is_err q)
+
+abbrev Said_action : Result Action Refusal → Result Action Refusal → Type 0
+Said_action s t = s ≡ t
+
+pub other_refusal : (o : Option Action) (r e : Refusal) → o ≡ None → Said_action (Err e) (ok_or o r) → r ≡ e
+other_refusal o r e n q = let k = rw n at q in cc
+
+pub has_row : (a : Action) → eqb (row_of_action a) 0 ≡ false
+has_row action.Bind = refl
+has_row action.CarrierNotification = refl
+has_row action.ProceedWithCarrier = refl
+has_row action.CancelCarrier = refl

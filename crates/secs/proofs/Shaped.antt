@@ -1,11 +1,9 @@
 -- The shape by position is the shape of the tree, and so is what the tool gets.
 use Prim.Native.Nat.{ℕ, zero, suc, ◌+◌, ◌≤◌}
-use native.Mathlib.Omega.{arith}
 use mathlib.Core.Path.{◌≡◌, refl, sym, ap, ◌∙◌}
 use mathlib.Core.Bool.{Bool, true, false, not, cond, ◌&&◌, ◌||◌}
 use mathlib.Core.List.{List, []}
-use lib.ListN.{length, get_or, take, replicate}
-use lib.Seq.{take_all}
+use lib.ListN.{length, get_or}
 use lib.Dec.{eqb}
 use Rattle.lists.specs.Lists.{every}
 use Rattle.lists.proofs.Bools.{clash, and_l, and_r}
@@ -16,8 +14,11 @@ use Rattle.items.specs.Heads.{head_at}
 use Rattle.items.specs.Reading.{read_message}
 use Rattle.items.specs.declared.head.Span.{Span}
 use Rattle.items.proofs.Found.{data_found}
+use Rattle.std.specs.Prelude.{Some, None}
+use Rattle.secs.specs.declared.text.Action.{Action}
+use Rattle.secs.specs.Actions.{row_of_action}
 use Rattle.secs.specs.Shape.{text_of, has_parts, is_pair, carrier_name, port, attributes, has_map, map_of, is_map, row_in, in_shape, byte_of}
-use Rattle.secs.specs.Request.{port_in, codes_in, input_in, input_from}
+use Rattle.secs.specs.Request.{port_in, codes_in, input_in, sent_codes, input_from}
 use Rattle.secs.specs.InPlace.{parts_at, shape_at, row_at, value_at, has_map_at, is_map_at, codes_at, taken_at}
 use Rattle.secs.proofs.Placed.{and_under, span_is}
 use Rattle.secs.proofs.Five.{action', name', port', Five, five, Kinds, kinds, kinds_is, row_is}
@@ -32,18 +33,12 @@ no_first : (m : List ℕ) (at : ℕ) → (head_at m at).many ≡ 0 → has_map_a
 unfolding has_map_at
 no_first m at e = rw e
 
-length_codes : (m : List ℕ) (n at : ℕ) → length (codes_at m n at) ≡ n
-unfolding codes_at
-length_codes m zero at = refl
-length_codes m (suc n) at = ap suc (length_codes m n _)
-
--- all 25, or none
-taken_codes : (b c : Bool) (l k : List ℕ) → length l ≡ 25 → (c ≡ true → l ≡ k) → b ≡ c
-    → take (cond b 25 0) (cond b l (replicate 25 0)) ≡ cond c k []
-taken_codes true true l k n e q = let h : length l ≤ 25 = omega arith in take_all 25 l h ∙ e refl
-taken_codes true false l k n e q = clash refl q
-taken_codes false true l k n e q = clash q refl
-taken_codes false false l k n e q = refl
+-- the codes, or none
+taken_codes : (b c : Bool) (l k : List ℕ) → (c ≡ true → l ≡ k) → b ≡ c → sent_codes (cond b (Some l) None) ≡ cond c k []
+taken_codes true true l k e q = e refl
+taken_codes true false l k e q = clash refl q
+taken_codes false true l k e q = clash q refl
+taken_codes false false l k e q = refl
 
 same_input : {a b p q : ℕ} {n k c d : List ℕ} → a ≡ b → p ≡ q → n ≡ k → c ≡ d → input_of a p 0 n c ≡ input_of b q 0 k d
 same_input e f g h = rw (e, f, g, h)
@@ -101,22 +96,19 @@ module _ (m : List ℕ) (ok : (read_message m).refusal ≡ 0) where
           go zero e = clash h (sym (has_map_is m ok k t) ∙ no_first m (port' m).at e)
           go (suc n) e = first_pair m ok k n e t
 
-      codes_is : take (cond (carries (row_at m (parts_at m).action) && has_map_at m (port' m).at) 25 0)
-          (cond (carries (row_at m (parts_at m).action) && has_map_at m (port' m).at) (codes_at m 25 (head_at m (value_at m
-          (port' m).at)).body)
-          (replicate 25 0))
+      codes_is : sent_codes (cond (carries (row_at m (parts_at m).action) && has_map_at m (port' m).at)
+          (Some (codes_at m 25 (head_at m (value_at m (port' m).at)).body)) None)
           ≡ codes_in m x
       unfolding codes_in
       codes_is =
           taken_codes (carries (row_at m (parts_at m).action) && has_map_at m (port' m).at) (carries (row_in m x) && has_map m x) _ _
-          (length_codes m 25 _)
           (λ q.
           let h = and_r (carries (row_in m x)) _ q in
           codes_are m ok k (first_is h) (rw h at c))
           (rw (row_is m ok k, has_map_is m ok k t))
 
   pub record Taken : Type 0 where
-    pub input : (count : ℕ) → input_from m (taken_at m (parts_at m) (row_at m (parts_at m).action) count) ≡ input_in m x
+    pub input : (a : Action) → row_of_action a ≡ row_at m (parts_at m).action → input_from m (taken_at m (parts_at m) a) ≡ input_in m x
     pub inside : (head_at m (parts_at m).name).body + (head_at m (parts_at m).name).many ≤ length m
 
   pub taken_is : in_shape m x ≡ true → Taken
@@ -129,6 +121,6 @@ module _ (m : List ℕ) (ok : (read_message m).refusal ≡ 0) where
       let t₂ = and_l (a && b) _ t₃ in
       let k = kinds_of (and_l a _ t₂) in
       record {
-        input = λ count. same_input (row_is m ok k) (port_is k) (name_is k) (codes_is k (and_r a _ t₂) (and_r (a && b) _ t₃));
+        input = λ act q. rw q (same_input (row_is m ok k) (port_is k) (name_is k) (codes_is k (and_r a _ t₂) (and_r (a && b) _ t₃)));
         inside = (data_found m 5 (action' m).at (action' m).count (five m ok k.five).name k.name).inside;
       }

@@ -1,19 +1,21 @@
 -- What the turns of the loop over pairs or codes cite.
 use Prim.Native.Nat.{ℕ, suc}
-use mathlib.Core.Path.{◌≡◌, sym}
-use mathlib.Core.Bool.{Bool, ◌&&◌}
+use mathlib.Core.Path.{◌≡◌}
+use mathlib.Core.Bool.{Bool, true, false}
 use mathlib.Core.List.{List}
-use Rattle.items.specs.Reading.{read_item, walked}
-use Rattle.items.specs.declared.walk.Walk.{Walk}
-use Rattle.items.proofs.Walked.{and_assoc, and_true}
+use Rattle.items.specs.Reading.{read_item, Walked, walked}
 use Rattle.secs.specs.InPlace.{fits_at, each_at}
 
-module _ (m : List ℕ) (pairs : Bool) (left : ℕ) (fine : Bool) where
-  pub each_next : (n k at count : ℕ) (b : Bool) (w : Walk) → n ≡ suc k → b ≡ fits_at m pairs at → w ≡ walked (read_item left m at count)
-      → ((fine && b) && each_at m pairs left k w.at w.count) ≡ (fine && each_at m pairs left n at count)
+module _ (m : List ℕ) (pairs : Bool) (left n at count : ℕ) (b : Bool) (f : b ≡ fits_at m pairs at) where
+  pub stops : (k : ℕ) → n ≡ suc k → b ≡ false → false ≡ each_at m pairs left n at count
   unfolding each_at
-  each_next n k at count b w s f e = rw (s, f, e) (sym (and_assoc fine _ _))
+  stops k s q = rw (s, ← f, q)
 
-  pub none_left : (n at count : ℕ) → n ≡ 0 → fine ≡ (fine && each_at m pairs left n at count)
+  pub goes_on : (k : ℕ) (w : Walked) → n ≡ suc k → b ≡ true → w ≡ walked (read_item left m at count)
+      → each_at m pairs left k w.at w.count ≡ each_at m pairs left n at count
   unfolding each_at
-  none_left n at count s = rw s (and_true fine)
+  goes_on k w s q e = rw (s, e, ← f, q)
+
+pub none_left : (m : List ℕ) (pairs : Bool) (left n at count : ℕ) → n ≡ 0 → true ≡ each_at m pairs left n at count
+unfolding each_at
+none_left m pairs left n at count s = rw s

@@ -1,5 +1,5 @@
 -- The same, found by position: the code keeps no tree. Each part begins where the one before it ends.
-use Rattle.std.specs.Prelude.{ℕ, zero, suc, ◌+◌, Bool, true, false, not, cond, ◌&&◌, ◌||◌, List, [], ◌∷◌, length, get_or, replicate, eqb, leb}
+use Rattle.std.specs.Prelude.{ℕ, zero, suc, ◌+◌, Bool, true, false, not, cond, ◌&&◌, ◌||◌, List, [], ◌∷◌, Some, None, length, get_or, eqb, leb}
 use Rattle.lists.specs.Lists.{same_list}
 use Rattle.maps.specs.Expected.{carries}
 use Rattle.items.specs.Formats.{LIST, ASCII, U1, is_unsigned}
@@ -7,6 +7,8 @@ use Rattle.items.specs.Tree.{bytes_at}
 use Rattle.items.specs.Heads.{head_at}
 use Rattle.items.specs.Reading.{read_item}
 use Rattle.secs.specs.Texts.{Bind, CarrierNotification, ProceedWithCarrier, CancelCarrier, SlotMap}
+use Rattle.secs.specs.declared.text.Action.{Action}
+use Rattle.secs.specs.Actions.{row_of_action}
 use Rattle.secs.specs.declared.parts.Parts.{Parts}
 use Rattle.secs.specs.declared.request.Request.{Request}
 
@@ -18,7 +20,6 @@ parts_at m =
     let name = read_item 5 m action.at action.count in
     let port = read_item 5 m name.at name.count in
     record {
-      five = eqb h.code LIST && eqb h.many 5;
       id = h.body;
       action = id.at;
       name = action.at;
@@ -32,7 +33,7 @@ code_at m at = (head_at m at).code
 
 unfoldable pub kinds_at : List ℕ → Parts → Bool
 kinds_at m p =
-    p.five
+    (eqb (head_at m 0).code LIST && eqb (head_at m 0).many 5)
     && is_unsigned (code_at m p.id)
     && eqb (code_at m p.action) ASCII
     && eqb (code_at m p.name) ASCII
@@ -91,28 +92,12 @@ codes_at m zero at = []
 codes_at m (suc n) at = get_or m (head_at m at).body 0 ∷ codes_at m n ((head_at m at).body + (head_at m at).many)
 
 -- what the tool gets, of a message in the shape
-unfoldable pub taken_at : List ℕ → Parts → ℕ → ℕ → Request
-taken_at m p row count =
-    let mapped = carries row && has_map_at m p.pairs in
+unfoldable pub taken_at : List ℕ → Parts → Action → Request
+taken_at m p action =
+    let mapped = carries (row_of_action action) && has_map_at m p.pairs in
     record {
-      refusal = 0;
-      count = count;
-      number = row;
-      port = cond (eqb row 3) 0 (get_or m (head_at m p.port).body 0);
-      at = (head_at m p.name).body;
-      many = (head_at m p.name).many;
-      coded = cond mapped 25 0;
-      codes = cond mapped (codes_at m 25 (head_at m (value_at m p.pairs)).body) (replicate 25 0);
+      action = action;
+      port = cond (eqb (row_of_action action) 3) 0 (get_or m (head_at m p.port).body 0);
+      name = record { at = (head_at m p.name).body; many = (head_at m p.name).many };
+      codes = cond mapped (Some (codes_at m 25 (head_at m (value_at m p.pairs)).body)) None;
     }
-
-abbrev pub not_taken : ℕ → ℕ → Request
-not_taken refusal count = record {
-  refusal = refusal;
-  count = count;
-  number = 0;
-  port = 0;
-  at = 0;
-  many = 0;
-  coded = 0;
-  codes = replicate 25 0;
-}

@@ -1,4 +1,5 @@
 pub mod Texts
+pub mod Actions
 pub mod Shape
 pub mod Request
 pub mod InPlace

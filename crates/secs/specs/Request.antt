@@ -1,12 +1,16 @@
 -- What a message asks of the tool: a refusal, or an input.
-use Rattle.std.specs.Prelude.{ℕ, ◌+◌, ◌≤◌, ◌≡◌, cond, ◌&&◌, List, [], map, length, take, eqb, ltb}
+use Rattle.std.specs.Prelude.{ℕ, ◌+◌, ◌≤◌, ◌≡◌, cond, ◌&&◌, List, [], Option, Some, None, Result, Ok, Err, map, length, eqb, ltb}
 use Rattle.rules.specs.Seen.{Input, input_of}
 use Rattle.maps.specs.Expected.{carries}
 use Rattle.items.specs.Tree.{Item, elements, bytes_at}
 use Rattle.items.specs.Reading.{read_message}
 use Rattle.items.specs.declared.head.Span.{Span}
 use Rattle.secs.specs.Shape.{byte_of, text_of, carrier_name, port, has_map, map_of, row_in, in_shape}
+use Rattle.records.specs.Refusals.{number}
+use Rattle.records.specs.declared.refusal.Refusal.{Refusal}
+use Rattle.secs.specs.Actions.{row_of_action}
 use Rattle.secs.specs.declared.request.Request.{Request}
+use Rattle.secs.specs.declared.request.Asked.{Asked}
 
 -- 20 to 24 where the reading met one; then 25 bytes left over; then 26 another shape or action
 unfoldable pub refusal_in : List ℕ → ℕ
@@ -45,14 +49,29 @@ request_in m =
       input = cond (eqb (refusal_in m) 0) input no_input;
     }
 
--- ── What the code hands on: numbers, where the name stands, and codes ──
-abbrev pub input_from : List ℕ → Request → Input
-input_from m r =
-    input_of r.number r.port 0 (bytes_at m (record { at = r.at; many = r.many })) (take r.coded r.codes)
+-- ── What the code hands on: an action, a port, where the name stands, and codes ──
+abbrev pub sent_codes : Option (List ℕ) → List ℕ
+sent_codes (Some l) = l
+sent_codes None = []
 
-pub record Handed (m : List ℕ) (r : Request) : Type 0 where
-  pub refused : r.refusal ≡ (request_in m).refusal
-  pub counted : r.count ≡ (request_in m).count
-  pub input : input_from m r ≡ (request_in m).input
-  pub inside : r.at + r.many ≤ length m
-  pub few : r.coded ≤ length r.codes
+abbrev pub input_from : List ℕ → Request → Input
+input_from m r = input_of (row_of_action r.action) r.port 0 (bytes_at m r.name) (sent_codes r.codes)
+
+abbrev pub said_refusal : Result Request Refusal → ℕ
+said_refusal (Ok r) = 0
+said_refusal (Err e) = number e
+
+abbrev pub said_input : List ℕ → Result Request Refusal → Input
+said_input m (Ok r) = input_from m r
+said_input m (Err e) = no_input
+
+-- the name stands in the message
+abbrev pub Inside : List ℕ → Result Request Refusal → Type 0
+Inside m (Ok r) = r.name.at + r.name.many ≤ length m
+Inside m (Err e) = Unit
+
+pub record Handed (m : List ℕ) (a : Asked) : Type 0 where
+  pub refused : said_refusal a.said ≡ (request_in m).refusal
+  pub counted : a.count ≡ (request_in m).count
+  pub input : said_input m a.said ≡ (request_in m).input
+  pub inside : Inside m a.said

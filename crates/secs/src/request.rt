@@ -1,41 +1,61 @@
 // The bridge's request: a refusal, or what the tool gets.
-ghost use Rattle.std.specs.Prelude.{◌≡◌, cond, eqb, get_or, replicate};
+ghost use Rattle.std.specs.Prelude.{◌≡◌, ◌≤◌, ◌+◌, length, cond, eqb, get_or, Some, None};
+ghost use Rattle.rules.specs.Seen.{input_in};
 ghost use Rattle.items.specs.Heads.{head_at};
-ghost use Rattle.secs.specs.InPlace.{codes_at, taken_at, not_taken};
-ghost use Rattle.secs.specs.Request.{Handed};
+ghost use Rattle.items.specs.Reading.{read_message, kept, walked};
+ghost use Rattle.secs.specs.Actions.{row_of_action};
+ghost use Rattle.secs.specs.InPlace.{codes_at, taken_at};
+ghost use Rattle.secs.specs.Request.{Handed, input_from, sent_codes};
 
 use crate::parts::*;
 use crate::text::*;
 use items::head::*;
-use items::reader::*;
-use records::choose::*;
+use items::reader::read_message;
+use items::walk::Walk;
+use records::refusal::*;
 use records::sizes::*;
+use rules::input::Input;
 
-// A refusal, or 0; how many items have begun; the row, the port, where the name stands, and how many codes there are.
+// What is asked: the action, the port, where the name stands, and the codes, if there are any.
 #[derive(Clone, Copy)]
 pub struct Request {
-    pub refusal: u8,
-    pub count: usize,
-    pub number: u8,
+    pub action: Action,
     pub port: u8,
-    pub at: usize,
-    pub many: usize,
-    pub coded: usize,
-    pub codes: [u8; SLOTS],
+    pub name: Span,
+    pub codes: Option<[u8; SLOTS]>,
 }
 
-fn refused(refusal: u8, count: usize) -> Request
-    ensures { result ≡ not_taken refusal count }
-{
-    Request {
-        refusal,
-        count,
-        number: 0,
-        port: 0,
-        at: 0,
-        many: 0,
-        coded: 0,
-        codes: [0; SLOTS],
+// How many items have begun, and what is asked, or why it is refused.
+#[derive(Clone, Copy)]
+pub struct Asked {
+    pub count: usize,
+    pub said: Result<Request, Refusal>,
+}
+
+impl Request {
+    pub fn codes(&self) -> &[u8]
+        ensures { result.now ≡ sent_codes self.now.codes }
+    {
+        match &self.codes {
+            Some(codes) => codes,
+            None => &[],
+        }
+    }
+
+    // What the tool gets.
+    pub fn input<'a>(&'a self, msg: &'a [u8]) -> Input<'a>
+        requires { self.now.name.at + self.now.name.many ≤ length msg.now }
+        ensures { input_in result ≡ input_from msg.entry.now self.entry.now }
+    {
+        let from = self.name.at;
+        let to = self.name.at + self.name.many;
+        Input {
+            number: u32::from(self.action.row()),
+            port: u32::from(self.port),
+            value: 0,
+            name: &msg[from..to],
+            codes: self.codes(),
+        }
     }
 }
 
@@ -45,76 +65,68 @@ fn codes_from(msg: &[u8], from: usize) -> [u8; SLOTS]
 {
     let mut codes = [0; SLOTS];
     let mut at = from;
-    let mut i = 0;
-    while i < SLOTS {
+    for code in &mut codes {
         let h = head_at(msg, at);
-        codes[i] = byte(msg, h.body) as u8;
+        *code = byte(msg, h.body);
         at = h.body + h.many;
-        i += 1;
     }
     codes
 }
 
-fn codes_if(msg: &[u8], mapped: bool, from: usize) -> [u8; SLOTS]
-    ensures { result ≡ cond mapped (codes_at msg.now 25 from) (replicate 25 0) }
+// Row 3's port is dropped.
+fn port_at(msg: &[u8], at: usize, action: Action) -> u8
+    ensures { result ≡ cond (eqb (row_of_action action) 3) 0 (get_or msg.now (head_at msg.now at).body 0) }
 {
-    if mapped {
-        codes_from(msg, from)
-    } else {
-        [0; SLOTS]
+    match action {
+        Action::CarrierNotification => 0,
+        _ => byte(msg, head_at(msg, at).body),
     }
 }
 
-// Row 3's port is dropped.
-fn port_at(msg: &[u8], at: usize, row: u8) -> u8
-    ensures { result ≡ cond (eqb row 3) 0 (get_or msg.now (head_at msg.now at).body 0) }
-{
-    let h = head_at(msg, at);
-    let port = byte(msg, h.body) as u8;
-    first(row == 3, 0, port)
-}
-
 // What the tool gets, of a message in the shape.
-fn taken(msg: &[u8], p: Parts, row: u8, count: usize) -> Request
-    ensures { result ≡ taken_at msg.now p row count }
+#[tactic(auto, unfolding(crate::specs::InPlace::taken_at, maps::specs::Expected::carries))]
+fn taken(msg: &[u8], p: Parts, action: Action) -> Request
+    ensures { result ≡ taken_at msg.now p action }
 {
     let name = head_at(msg, p.name);
-    let port = port_at(msg, p.port, row);
-    let map = has_map(msg, p.pairs);
-    let mapped = ((row == 1) | (row == 3)) & map;
-    let at = value_at(msg, p.pairs);
-    let list = head_at(msg, at);
-    let codes = codes_if(msg, mapped, list.body);
+    let mapped = matches!(action, Action::Bind | Action::CarrierNotification)
+        && has_map(msg, p.pairs);
+    let codes = if mapped {
+        let list = head_at(msg, value_at(msg, p.pairs));
+        Some(codes_from(msg, list.body))
+    } else {
+        None
+    };
     Request {
-        refusal: 0,
-        count,
-        number: row,
-        port,
-        at: name.body,
-        many: name.many,
-        coded: either(mapped, SLOTS, 0),
+        action,
+        port: port_at(msg, p.port, action),
+        name: Span {
+            at: name.body,
+            many: name.many,
+        },
         codes,
     }
 }
 
 // 20 to 24 where the reading met one, then 25, then 26; else what the tool gets.
-pub fn request_in(msg: &[u8]) -> Request
+fn request_of(msg: &[u8], walk: Walk) -> Result<Request, Refusal>
+    requires { kept walk ≡ walked (read_message msg.now) }
+    ensures { Handed msg.now (record { count = walk.count; said = result }) }
+{
+    walk.said?;
+    when(walk.at < msg.len(), Refusal::BytesLeftOver)?;
+    let p = parts_at(msg);
+    unless(shape_at(msg, p) && walk.single, Refusal::ShapeOrAction)?;
+    let action = action_at(msg, p.action).ok_or(Refusal::ShapeOrAction)?;
+    Ok(taken(msg, p, action))
+}
+
+pub fn request_in(msg: &[u8]) -> Asked
     ensures { Handed msg.now result }
 {
-    let w = read_message(msg);
-    if w.refusal != 0 {
-        return refused(w.refusal, w.count);
-    }
-    if w.at < msg.len() {
-        return refused(25, w.count);
-    }
-    let p = parts_at(msg);
-    let shape = shape_at(msg, p);
-    let row = row_at(msg, p.action);
-    let single = w.single;
-    if shape & single & !(row == 0) {
-        taken(msg, p, row, w.count)
-    } else {
-        refused(26, w.count)
+    let walk = read_message(msg);
+    Asked {
+        count: walk.count,
+        said: request_of(msg, walk),
     }
 }

@@ -1,51 +1,52 @@
 // Texts in a message: whether one is an action, or SlotMap.
 ghost use Rattle.std.specs.Prelude.{◌≡◌};
-ghost use Rattle.lists.specs.Lists.{same_list};
+ghost use Rattle.secs.specs.Actions.{row_of_action, row_found};
 ghost use Rattle.secs.specs.InPlace.{named_at, row_at};
 
 use items::head::*;
-use records::choose::*;
 
-fn same(a: &[u8], b: &[u8]) -> bool
-    ensures { result ≡ same_list a.now b.now }
-{
-    let n = a.len();
-    if n != b.len() {
-        return false;
+// What the host asks for, each by the number of its row.
+#[derive(Clone, Copy, PartialEq, Eq)]
+pub enum Action {
+    Bind = 1,
+    CarrierNotification = 3,
+    ProceedWithCarrier = 5,
+    CancelCarrier = 6,
+}
+
+impl Action {
+    pub fn row(self) -> u8
+        ensures { result ≡ row_of_action self }
+    {
+        self as u8
     }
-    let mut same = true;
-    let mut i = n;
-    while 0 < i {
-        i -= 1;
-        same = (a[i] == b[i]) & same;
-    }
-    same
 }
 
 // The data of the item at a position is a text.
+#[tactic(auto, using(lists::proofs::Library::equal_is_same), unfolding(crate::specs::InPlace::named_at))]
 pub fn named(msg: &[u8], at: usize, text: &[u8]) -> bool
     ensures { result ≡ named_at msg.now at text.now }
 {
     let h = head_at(msg, at);
     let from = h.body;
     let to = h.body + h.many;
-    if to <= msg.len() {
-        same(&msg[from..to], text)
-    } else {
-        false
-    }
+    to <= msg.len() && &msg[from..to] == text
 }
 
-// The row of the action at a position, or 0.
-pub fn row_at(msg: &[u8], at: usize) -> u8
-    ensures { result ≡ row_at msg.now at }
+// The action at a position, if there is one.
+#[tactic(auto, unfolding(crate::specs::InPlace::row_at))]
+pub fn action_at(msg: &[u8], at: usize) -> Option<Action>
+    ensures { row_found result ≡ row_at msg.now at }
 {
-    let bind = named(msg, at, b"Bind");
-    let notification = named(msg, at, b"CarrierNotification");
-    let proceed = named(msg, at, b"ProceedWithCarrier");
-    let cancel = named(msg, at, b"CancelCarrier");
-    let d = first(cancel, 6, 0);
-    let c = first(proceed, 5, d);
-    let b = first(notification, 3, c);
-    first(bind, 1, b)
+    if named(msg, at, b"Bind") {
+        Some(Action::Bind)
+    } else if named(msg, at, b"CarrierNotification") {
+        Some(Action::CarrierNotification)
+    } else if named(msg, at, b"ProceedWithCarrier") {
+        Some(Action::ProceedWithCarrier)
+    } else if named(msg, at, b"CancelCarrier") {
+        Some(Action::CancelCarrier)
+    } else {
+        None
+    }
 }

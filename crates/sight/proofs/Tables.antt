@@ -20,21 +20,22 @@ use Rattle.sight.specs.Pass.{passed, found_in}
 use Rattle.rules.proofs.Holding.{used_held, count_held, port_held, record_held}
 
 -- put together from what each call gave
-pub seen_made : (t : Tool) → Held t → (i : Input) (port value used places n : ℕ) (text : Name) (f : Found) (named mapped : Bool)
+pub seen_made : (t : Tool) → Held t → (i : Input) (port value used places n : ℕ) (text : Name) (f : Found) (isport named blank mapped : Bool)
     (map : List ℕ) (here home : Port)
     → port ≡ narrow i.port → value ≡ narrow i.value → text ≡ in_bytes i.name → f ≡ found_in t text port value
-    → n ≡ t.count → map ≡ in_map i.codes → places ≡ t.places → used ≡ t.used → named ≡ is_name i.name → mapped ≡ is_map i.codes
+    → n ≡ t.count → map ≡ in_map i.codes → places ≡ t.places → used ≡ t.used
+    → isport ≡ between 1 port used → named ≡ is_name i.name → blank ≡ eqb (length i.name) 0 → mapped ≡ is_map i.codes
     → here ≡ port_at t port → home ≡ port_at t f.found.port
     → ◌≡◌ {A = Seen} record {
       places = places;
       count = n;
       port = port;
-      isport = between 1 port used;
+      isport = isport;
       noport = eqb port 0;
       value = value;
       name = text;
       named = named;
-      blank = eqb (length i.name) 0;
+      blank = blank;
       map = map;
       mapped = mapped;
       here = here;
@@ -50,8 +51,8 @@ pub seen_made : (t : Tool) → Held t → (i : Input) (port value used places n 
       busy = f.passed.busy;
     } (see (state_of t) i)
 unfolding found_in passed see
-seen_made t h i port value used places n text f named mapped map here home a b c d e g j k l o p q =
-    rw (q, p, o, l, k, j, g, e, d, c, b, a)
+seen_made t h i port value used places n text f isport named blank mapped map here home a b c d e g j k y l m o p q =
+    rw (q, p, o, m, l, y, k, j, g, e, d, c, b, a)
     (rw (
       used_held t h,
       count_held t h,

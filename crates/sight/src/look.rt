@@ -2,18 +2,18 @@
 ghost use Rattle.std.specs.Prelude.{◌≡◌, ◌≤◌, ◌+◌};
 ghost use Rattle.rules.specs.State.{state_of};
 ghost use Rattle.rules.specs.Held.{Held};
-ghost use Rattle.rules.specs.Seen.{input_of, narrow, see};
+ghost use Rattle.rules.specs.Seen.{input_in, narrow, see};
 ghost use Rattle.image.specs.Image.{tool_from};
 ghost use Rattle.sight.specs.Pass.{gathered, found_in};
 
 use image::layout::*;
 use image::read::{carrier_from, count, places, port_at, record_at, used};
 use records::carrier::Carrier;
-use records::choose::{either, one_if, wide};
 use records::map::{in_map, is_map};
 use records::name::{Name, in_bytes, is_name};
 use records::sizes::EXPECTED_MOST;
 use records::words::*;
+use rules::input::Input;
 use rules::row::Seen;
 
 // What the records passed so far show: where the name's record stands and that of the carrier tied to the port, how many
@@ -39,34 +39,35 @@ pub struct Found {
 pub fn narrow(n: u32) -> u8
     ensures { result ≡ narrow n }
 {
-    if n < 255 { n as u8 } else { 255 }
+    u8::try_from(n).unwrap_or(255)
 }
 
 // One record more, at position k, before those passed.
+#[tactic(auto, using(records::proofs::Names::equal_names))]
 fn gather(p: Passed, c: Carrier, name: Name, port: u8, value: u8, k: usize) -> Passed
     requires { p.expected ≤ 36 }
     ensures { result ≡ gathered name port value k c p }
 {
-    let stands = either(c.name.same(name), k, p.stands);
-    let holds = either((1 <= port) & (c.port == port), k, p.holds);
-    let expected = one_if(c.place == EXPECTED) + p.expected;
-    let taken = ((c.place == IN_BUFFER) & (c.spot == value)) | p.taken;
-    let busy = (c.opened == OPEN) | p.busy;
+    // by `&` and `|`, since this runs for each record: no branch
     Passed {
-        stands,
-        holds,
-        expected,
-        taken,
-        busy,
+        stands: if c.name == name { k } else { p.stands },
+        holds: if (1 <= port) & (c.port == port) {
+            k
+        } else {
+            p.holds
+        },
+        expected: usize::from(c.place == EXPECTED) + p.expected,
+        taken: (c.place == IN_BUFFER) & (c.spot == value) | p.taken,
+        busy: (c.opened == OPEN) | p.busy,
     }
 }
 
-// The one loop over the records.
+// The one loop over the records, from the last on, so that the first of a name stands.
 fn pass(m: &[u8; TOOL_BYTES], name: Name, port: u8, value: u8) -> Found
     requires { (tool_from m.now).count ≤ 36 }
     ensures { result ≡ found_in (tool_from m.now) name port value }
 {
-    let n = wide(count(m));
+    let n = usize::from(count(m));
     let mut p = Passed {
         stands: n,
         holds: n,
@@ -74,56 +75,52 @@ fn pass(m: &[u8; TOOL_BYTES], name: Name, port: u8, value: u8) -> Found
         taken: false,
         busy: false,
     };
-    let mut k = n;
-    while 0 < k {
-        k -= 1;
+    for k in (0..n).rev() {
         let c = carrier_from(m, RECORDS_START + CARRIER_BYTES * k);
         p = gather(p, c, name, port, value, k);
     }
-    let found = record_at(m, p.stands);
-    let held = record_at(m, p.holds);
     Found {
         passed: p,
-        found,
-        held,
+        found: record_at(m, p.stands),
+        held: record_at(m, p.holds),
     }
 }
 
-pub fn look(m: &[u8; TOOL_BYTES], port: u32, value: u32, name: &[u8], codes: &[u8]) -> Seen
+pub fn look(m: &[u8; TOOL_BYTES], i: Input) -> Seen
     requires { Held (tool_from m.now) }
-    ensures { result ≡ see (state_of (tool_from m.now)) (input_of 0 port value name.now codes.now) }
+    ensures { result ≡ see (state_of (tool_from m.now)) (input_in i.entry) }
 {
-    let port = narrow(port);
-    let value = narrow(value);
-    let text = in_bytes(name);
-    let f = pass(m, text, port, value);
-    let p = f.passed;
-    let found = f.found;
-    let held = f.held;
-    let n = wide(count(m));
-    let map = in_map(codes);
+    let port = narrow(i.port);
+    let value = narrow(i.value);
+    let name = in_bytes(i.name);
+    let Found {
+        passed,
+        found,
+        held,
+    } = pass(m, name, port, value);
+    let count = usize::from(count(m));
     Seen {
         places: places(m),
-        count: n,
+        count,
         port,
-        isport: (1 <= port) & (port <= used(m)),
+        isport: (1..=used(m)).contains(&port),
         noport: port == NO_PORT,
         value,
-        name: text,
-        named: is_name(name),
-        blank: name.len() == 0,
-        map,
-        mapped: is_map(codes),
+        name,
+        named: is_name(i.name),
+        blank: i.name.is_empty(),
+        map: in_map(i.codes),
+        mapped: is_map(i.codes),
         here: port_at(m, port),
-        stands: p.stands,
-        known: p.stands < n,
+        stands: passed.stands,
+        known: passed.stands < count,
         found,
         home: port_at(m, found.port),
-        holds: p.holds,
-        tied: p.holds < n,
+        holds: passed.holds,
+        tied: passed.holds < count,
         held,
-        full: EXPECTED_MOST <= p.expected,
-        taken: p.taken,
-        busy: p.busy,
+        full: EXPECTED_MOST <= passed.expected,
+        taken: passed.taken,
+        busy: passed.busy,
     }
 }

@@ -24,6 +24,18 @@ use Rattle.soundness.proofs.Clauses.{Passed, passed_sound, sound_passed}
 abbrev pub sized : ℕ → ℕ → ℕ → Bool
 sized P B n = (between 1 P 4 && leb B 16) && leb n 36
 
+pub size_in : (P B n : ℕ) → 1 ≤ P → P ≤ 4 → B ≤ 16 → n ≤ 36 → sized P B n ≡ true
+size_in P B n a b c d = and_i (and_i (and_i (le-leb 1 P a) (le-leb P 4 b)) (le-leb B 16 c)) (le-leb n 36 d)
+
+pub size_out : (P B n : ℕ) → (1 ≤ P → P ≤ 4 → B ≤ 16 → n ≤ 36 → ⊥) → sized P B n ≡ false
+size_out P B n h = go (sized P B n) refl
+  where
+    go : (b : Bool) → sized P B n ≡ b → b ≡ false
+    go true e =
+        absurd (h (leb-true 1 P (search (and_l, and_r) depth 5)) (leb-true P 4 (search (and_l, and_r) depth 5))
+        (leb-true B 16 (search (and_l, and_r) depth 5)) (leb-true n 36 (search (and_l, and_r) depth 5)))
+    go false e = refl
+
 abbrev pub fits : List ℕ → ℕ → ℕ → ℕ → Bool
 fits m P B n =
     (((((every is_zero (bytes_from m (3 + 22 * P) (88 - 22 * P)) && every is_zero (bytes_from m (91 + 50 * n) (1800 - 50 * n)))

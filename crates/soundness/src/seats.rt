@@ -5,12 +5,12 @@ ghost use Rattle.soundness.specs.Seats.{port_on, seat_fits, tie_fits, seats_fit}
 ghost use Rattle.rules.specs.Sound.{open_agrees};
 
 use image::layout::*;
-use passes::bytes::{index, same, zeros};
-use records::choose::{one_if, wide};
+use passes::bytes::{same, zeros};
 use records::sizes::*;
 use records::words::*;
 
-// The record at position k: its place, spot, port and lid fit each other.
+// The record at position k: its place, spot, port and lid fit each other. `&` and `|` in the passes of this crate, so that no
+// record is waited for.
 fn seat(m: &[u8; TOOL_BYTES], k: usize, used: u8, places: u8) -> bool
     requires { k < 36 }
     ensures { result ≡ seat_fits used places (record_on m.now k) }
@@ -32,6 +32,7 @@ fn seat(m: &[u8; TOOL_BYTES], k: usize, used: u8, places: u8) -> bool
 }
 
 // An open carrier at position k and the port at position p agree.
+#[tactic(auto, unfolding(rules::specs::Sound::open_agrees))]
 fn opens(m: &[u8; TOOL_BYTES], p: usize, k: usize) -> bool
     requires p_bound { p < 4 }
     requires k_bound { k < 36 }
@@ -45,7 +46,8 @@ fn opens(m: &[u8; TOOL_BYTES], p: usize, k: usize) -> bool
         | ((place == AT_PORT) & (m[q + MOVEMENT_OFFSET] == IDLE) & (m[q] == BLOCKED))
 }
 
-// The port at position p is tied to the carrier before position a, or to none.
+// The port at position p is tied to the carrier before position a, or where a is 0 to none, as `latest` counts in passes/specs.
+#[tactic(auto, unfolding(crate::specs::Seats::tie_fits))]
 fn tie(m: &[u8; TOOL_BYTES], p: usize, a: u8) -> bool
     requires p_bound { p < 4 }
     requires a_bound { a ≤ 36 }
@@ -54,7 +56,7 @@ fn tie(m: &[u8; TOOL_BYTES], p: usize, a: u8) -> bool
     if a == 0 {
         zeros(m, PORTS_START + PORT_BYTES * p + TIE_OFFSET, NAME_BYTES)
     } else {
-        let k = wide(a) - 1;
+        let k = usize::from(a - 1);
         same(
             m,
             PORTS_START + PORT_BYTES * p + TIE_OFFSET,
@@ -75,18 +77,16 @@ pub fn seats(m: &[u8; TOOL_BYTES], used: u8, places: u8, n: usize) -> bool
     let mut apart = true;
     let mut alone = true;
     let mut expected = 0;
-    let mut k = 0;
-    while k < n {
-        let s = index(m[RECORDS_START + CARRIER_BYTES * k + SPOT_OFFSET]);
-        let p = index(m[RECORDS_START + CARRIER_BYTES * k + PORT_OFFSET]);
+    for k in 0..n {
+        let o = RECORDS_START + CARRIER_BYTES * k;
+        let s = usize::from(m[o + SPOT_OFFSET]);
+        let p = usize::from(m[o + PORT_OFFSET]);
         fit = seat(m, k, used, places) & fit;
         apart = ((s == 0) | (spots[s] == 0)) & apart;
         alone = ((p == 0) | (ports[p] == 0)) & alone;
-        expected = one_if(m[RECORDS_START + CARRIER_BYTES * k + PLACE_OFFSET] == EXPECTED)
-            + expected;
-        k += 1;
-        spots[s] = k as u8;
-        ports[p] = k as u8;
+        expected += usize::from(m[o + PLACE_OFFSET] == EXPECTED);
+        spots[s] = (k + 1) as u8;
+        ports[p] = (k + 1) as u8;
     }
     let low = tie(m, 0, ports[1]) & tie(m, 1, ports[2]);
     let high = tie(m, 2, ports[3]) & tie(m, 3, ports[4]);

@@ -1,4 +1,5 @@
 // The whole tool.
+// n counts what there is in a block, which C lends whole: it isn't the length of m.
 ghost use Rattle.std.specs.Prelude.{◌≡◌, ◌≤◌, ◌<◌};
 ghost use Rattle.lists.specs.Lists.{every};
 ghost use Rattle.rules.specs.Sound.{sound_tool};
@@ -11,10 +12,10 @@ use image::read::{count, places, used};
 use passes::bytes::zeros;
 use passes::lanes::{fields, named};
 use passes::names::differ;
-use records::choose::wide;
 use records::words::*;
 
 // The port at position k, but for its tie: that is looked at with the carriers.
+#[tactic(auto, unfolding(crate::specs::Seats::port_fits, rules::specs::Sound::port_agrees))]
 fn port(m: &[u8; TOOL_BYTES], k: usize) -> bool
     requires { k < 4 }
     ensures { result ≡ port_fits (port_on m.now k) }
@@ -39,10 +40,8 @@ fn ports(m: &[u8; TOOL_BYTES], n: usize) -> bool
     ensures { result ≡ every port_fits (table n (port_on m.now)) }
 {
     let mut ok = true;
-    let mut k = 0;
-    while k < n {
+    for k in 0..n {
         ok = port(m, k) & ok;
-        k += 1;
     }
     ok
 }
@@ -54,9 +53,9 @@ pub fn sound(m: &[u8; TOOL_BYTES]) -> bool
     let used = used(m);
     let places = places(m);
     let count = count(m);
-    if ((1 <= used) & (used <= USED_MOST)) & (places <= PLACES_MOST) & (count <= COUNT_MOST) {
-        let p = wide(used);
-        let n = wide(count);
+    if 1 <= used && used <= USED_MOST && places <= PLACES_MOST && count <= COUNT_MOST {
+        let p = usize::from(used);
+        let n = usize::from(count);
         let unused = zeros(
             m,
             PORTS_START + PORT_BYTES * p,

@@ -1,11 +1,10 @@
 -- One time: `timely` says of a float that it is exactly a number of ticks below 1,048,576 seconds, and which of the two a `Time` is.
-use Rattle.std.proofs.Common.{◌≡◌, ℕ, ◌*◌, ◌/◌, ◌%◌, ◌<◌, Bool, true, false, cond, ◌&&◌, ℤ, sym, refl, ap, ◌∙◌, add-zero, div-add-mod', zero-mul, mul-div_cancel, ltb-true, lt-ltb, eq-eqb, eqb-true}
+use Rattle.std.proofs.Common.{◌≡◌, ℕ, ◌*◌, ◌/◌, ◌%◌, ◌<◌, Bool, true, false, cond, ◌&&◌, ℤ, Some, None, sym, refl, ap, ◌∙◌, add-zero, div-add-mod', zero-mul, mul-div_cancel, ltb-true, lt-ltb, eq-eqb, eqb-true}
 use native.Mathlib.Nat.{mul-mod_left, eq_of_mul-eq-mul_right}
 use lib.Ieee.{Float, nan, inf, fin, up, down}
 use lib.Ieee.Fits.{up_pos, down_pos}
 use Rattle.lists.proofs.Bools.{clash, and_l, and_r}
 use Rattle.ticks.specs.Times.{Is, in_ticks, ticks, not_below_zero, whole_multiple, up_to_end, timely, time_of}
-use Rattle.ticks.specs.declared.time.Time.TheVariants.{Ticks, Other}
 use Rattle.ticks.proofs.Rounds.{Sign, plus, tick_pos}
 
 -- ── What is n / 1024 has n ticks, and is timely where these are few enough ──
@@ -66,30 +65,14 @@ timely_few (fin s m e) h =
     ltb-true (in_ticks m e / down e) (1048576 * 1024) (and_r (not_below_zero s m && whole_multiple m e) (up_to_end m e) h)
 
 -- ── Which of the two a time is ──
-pub ticks_of : (x : Float) (n : ℕ) → Is 1024 x n → n < 1048576 * 1024 → Ticks n ≡ time_of x
+pub ticks_of : (x : Float) (n : ℕ) → Is 1024 x n → n < 1048576 * 1024 → Some n ≡ time_of x
 unfolding time_of
 ticks_of x n p l = rw (is_timely x n p l, counted x n p)
 
-pub other : (x : Float) → (timely x ≡ true → ⊥) → Other ≡ time_of x
+pub other : (x : Float) → (timely x ≡ true → ⊥) → None ≡ time_of x
 unfolding time_of
 other x h = go (timely x) h
   where
-    go : (b : Bool) → (b ≡ true → ⊥) → Other ≡ cond b (Ticks (ticks x)) Other
+    go : (b : Bool) → (b ≡ true → ⊥) → None ≡ cond b (Some (ticks x)) None
     go true h = absurd (h refl)
     go false h = refl
-
-pub told_ticks : (x : Float) (n : ℕ) → Ticks n ≡ time_of x → true ≡ timely x
-unfolding time_of
-told_ticks x n h = go (timely x) h
-  where
-    go : (b : Bool) → Ticks n ≡ cond b (Ticks (ticks x)) Other → true ≡ b
-    go true e = refl
-    go false e = cc
-
-pub told_other : (x : Float) → Other ≡ time_of x → false ≡ timely x
-unfolding time_of
-told_other x h = go (timely x) h
-  where
-    go : (b : Bool) → Other ≡ cond b (Ticks (ticks x)) Other → false ≡ b
-    go true e = cc
-    go false e = refl

@@ -1,11 +1,9 @@
 -- Request P8: one time, in seconds as f64. A tick is 1/1024 of a second.
 -- The bits of an f64 stand for no number (`nan`), an infinity, or `fin s m e`: m * 2 ^ e, negative where s is true. 2 ^ e is the fraction
 -- up e / down e.
-use Rattle.std.specs.Prelude.{◌≡◌, ℕ, ◌*◌, ◌/◌, ◌%◌, Bool, true, false, cond, not, ◌&&◌, ◌||◌, ℤ, ◌==◌, nat_lt, Float}
+use Rattle.std.specs.Prelude.{◌≡◌, ℕ, ◌*◌, ◌/◌, ◌%◌, Bool, true, false, cond, not, ◌&&◌, ◌||◌, ℤ, Option, Some, None, ◌==◌, nat_lt, Float}
 use Rattle.std.specs.Float.{nan, inf, fin}
 use Rattle.std.specs.Float.Ieee.{up, down}
-use Rattle.ticks.specs.declared.time.Time.{Time}
-use Rattle.ticks.specs.declared.time.Time.TheVariants.{Ticks, Other}
 
 -- x is exactly n / c, and not below zero: minus zero is zero
 abbrev pub Is : ℕ → Float → ℕ → Type 0
@@ -45,6 +43,6 @@ timely nan = false
 timely (inf s) = false
 timely (fin s m e) = not_below_zero s m && whole_multiple m e && up_to_end m e
 
--- its ticks, or any other float
-unfoldable pub time_of : Float → Time
-time_of x = cond (timely x) (Ticks (ticks x)) Other
+-- its ticks; none where it is any other float
+unfoldable pub time_of : Float → Option ℕ
+time_of x = cond (timely x) (Some (ticks x)) None

@@ -7,6 +7,7 @@ use crate::sizes::*;
 use crate::wafers::*;
 
 // fits: whole wafers, and at most 25; timely: and each time is a whole multiple in range. Where either fails, no seconds.
+// Flags with a number beside: the definitions by which a step goes read each of them (wafers' specs, Outcome.fits and Outcome.good).
 #[derive(Clone, Copy)]
 pub struct Sent {
     pub fits: bool,
@@ -21,8 +22,7 @@ fn rounded_up(t: f64) -> u32
     ensures { result ≡ rounded_up (ticks t) }
 {
     let n = std::num::truncating_f64_to_u64(t * 1024.0);
-    let s = (n + (SECOND_TICKS - 1)) / SECOND_TICKS;
-    s as u32
+    n.div_ceil(SECOND_TICKS) as u32
 }
 
 // The times of wafers as they were sent, process time and handling time in turn.

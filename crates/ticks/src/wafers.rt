@@ -1,4 +1,4 @@
-// Up to 25 wafers by value: read off what was sent, tested, and their times added.
+// Up to 25 wafers by value, as document 01 asks for them: read off what was sent, tested, and their times added.
 ghost use Rattle.std.specs.Prelude.{◌≡◌, ◌/◌, ◌≤◌, true, length, take};
 ghost use Rattle.ticks.specs.Times.{Counts};
 ghost use Rattle.ticks.specs.Wafers.{wafers_in, all_timely, total_of, f64_total};
@@ -23,13 +23,11 @@ pub fn wafers_in(times: &[f64], n: usize) -> [Wafer; WAFERS]
         handling: 0.0,
     };
     let mut ws = [none; WAFERS];
-    let mut i = 0;
-    while i < n {
+    for i in 0..n {
         ws[i] = Wafer {
             process: times[WAFER_TIMES * i],
             handling: times[WAFER_TIMES * i + 1],
         };
-        i += 1;
     }
     ws
 }
@@ -40,13 +38,11 @@ pub fn all_timely(ws: [Wafer; WAFERS], n: usize) -> bool
     ensures { result ≡ all_timely (take n ws) }
 {
     let mut good = true;
-    let mut i = 0;
-    while i < n {
+    for i in 0..n {
         let w = ws[i];
         let p = is_timely(w.process);
         let h = is_timely(w.handling);
         good = good & (p & h);
-        i += 1;
     }
     good
 }
@@ -59,12 +55,10 @@ pub fn total(ws: [Wafer; WAFERS], n: usize) -> f64
     ensures counts { Counts result (total_of (take n ws)) }
 {
     let mut t = 0.0;
-    let mut i = 0;
-    while i < n {
+    for i in 0..n {
         let w = ws[i];
         t = t + w.process;
         t = t + w.handling;
-        i += 1;
     }
     t
 }

@@ -5,20 +5,18 @@ ghost use Rattle.times.specs.Bytes.{seconds_from, times_from, prediction_from, p
 
 use crate::layout::*;
 use image::layout::TOOL_BYTES;
-use passes::bytes::broad;
 use prediction::prediction::*;
 use records::sizes::RECORDS;
 
+#[tactic(auto, unfolding(crate::specs::Bytes::seconds_from))]
 fn seconds_from(m: &[u8; TOOL_BYTES], o: usize) -> u32
     requires { o + 4 ≤ 1891 }
     ensures { result ≡ seconds_from m.now o }
 {
-    (broad(m[o])
-        + 256 * broad(m[o + 1])
-        + 65536 * broad(m[o + 2])
-        + 16777216 * broad(m[o + 3])) as u32
+    u32::from_le_bytes([m[o], m[o + 1], m[o + 2], m[o + 3]])
 }
 
+#[tactic(auto, unfolding(crate::specs::Bytes::times_from))]
 pub fn times_at(m: &[u8; TOOL_BYTES]) -> Times
     ensures { result ≡ times_from m.now }
 {
@@ -41,6 +39,7 @@ pub fn no_prediction() -> Prediction
     }
 }
 
+#[tactic(auto, unfolding(crate::specs::Bytes::prediction_from))]
 fn prediction_from(m: &[u8; TOOL_BYTES], o: usize) -> Prediction
     requires { o + 11 ≤ 1891 }
     ensures { result ≡ prediction_from m.now o }
@@ -55,6 +54,7 @@ fn prediction_from(m: &[u8; TOOL_BYTES], o: usize) -> Prediction
 }
 
 // The prediction at a position; past the end there is none.
+#[tactic(auto, using(crate::proofs::Laid::prediction_is, crate::proofs::Laid::prediction_out))]
 pub fn prediction_at(m: &[u8; TOOL_BYTES], k: usize) -> Prediction
     ensures { result ≡ get_or (predictions_from m.now) k no_prediction }
 {
@@ -66,6 +66,7 @@ pub fn prediction_at(m: &[u8; TOOL_BYTES], k: usize) -> Prediction
 }
 
 // Its state alone: one byte, where a pass asks no more.
+#[tactic(auto, unfolding(crate::specs::Bytes::prediction_from), using(crate::proofs::Laid::prediction_is, crate::proofs::Laid::prediction_out))]
 pub fn state_at(m: &[u8; TOOL_BYTES], k: usize) -> u8
     ensures { result ≡ (get_or (predictions_from m.now) k no_prediction).state }
 {

@@ -10,16 +10,12 @@ use image::layout::TOOL_BYTES;
 use image::write::put;
 use prediction::prediction::*;
 
+#[tactic(auto, unfolding(crate::specs::Bytes::seconds_bytes))]
 fn seconds_bytes(n: u32) -> [u8; SECONDS_BYTES]
     ensures value { result ≡ seconds_bytes n }
     ensures n_bound { n < 4294967296 }
 {
-    [
-        (n % 256) as u8,
-        (n / 256 % 256) as u8,
-        (n / 65536 % 256) as u8,
-        (n / 16777216 % 256) as u8,
-    ]
+    n.to_le_bytes()
 }
 
 // The clock that an input brought.
@@ -31,8 +27,7 @@ pub fn put_clock(m: &mut [u8; TOOL_BYTES], clock: u32)
     } }
     ensures kept_outside { KeptOutside 1189 1193 m.old m.new }
 {
-    let b = seconds_bytes(clock);
-    put(m, CLOCK_OFFSET, &b);
+    put(m, CLOCK_OFFSET, &seconds_bytes(clock));
 }
 
 // What set-up takes.
@@ -40,10 +35,8 @@ pub fn put_spans(m: &mut [u8; TOOL_BYTES], setting: u32, timeout: u32)
     ensures m_after { times_from m.new ≡ record { now = (times_from m.old).now; setting = setting; timeout = timeout } }
     ensures kept_outside { KeptOutside 1193 1201 m.old m.new }
 {
-    let s = seconds_bytes(setting);
-    let t = seconds_bytes(timeout);
-    put(m, SETTING_OFFSET, &s);
-    put(m, TIMEOUT_OFFSET, &t);
+    put(m, SETTING_OFFSET, &seconds_bytes(setting));
+    put(m, TIMEOUT_OFFSET, &seconds_bytes(timeout));
 }
 
 fn prediction_bytes(p: Prediction) -> [u8; PREDICTION_BYTES]
@@ -51,14 +44,12 @@ fn prediction_bytes(p: Prediction) -> [u8; PREDICTION_BYTES]
     ensures tp_bound { p.tp < 4294967296 }
     ensures te_bound { p.te < 4294967296 }
 {
-    let tp = seconds_bytes(p.tp);
-    let te = seconds_bytes(p.te);
     let mut b = [0; PREDICTION_BYTES];
     b[STATE_OFFSET] = p.state;
     b[KNOWN_OFFSET] = p.known;
     b[ESTIMATED_OFFSET] = p.estimated;
-    put(&mut b, TP_OFFSET, &tp);
-    put(&mut b, TE_OFFSET, &te);
+    put(&mut b, TP_OFFSET, &seconds_bytes(p.tp));
+    put(&mut b, TE_OFFSET, &seconds_bytes(p.te));
     b
 }
 
@@ -67,8 +58,11 @@ pub fn put_prediction(m: &mut [u8; TOOL_BYTES], k: usize, p: Prediction)
     ensures m_after { predictions_from m.new ≡ set (predictions_from m.old) k p }
     ensures kept_outside { KeptOutside 1201 1597 m.old m.new }
 {
-    let b = prediction_bytes(p);
-    put(m, PREDICTIONS_START + PREDICTION_BYTES * k, &b);
+    put(
+        m,
+        PREDICTIONS_START + PREDICTION_BYTES * k,
+        &prediction_bytes(p),
+    );
 }
 
 // Of n records the one at goes is gone (n: none), and if one is made, first is predicted of it.
@@ -83,6 +77,13 @@ pub fn predictions_follow(
     ensures m_after { predictions_from m.new ≡ followed_in no_prediction n goes made first (predictions_from m.old) }
     ensures kept_outside { KeptOutside 1201 1597 m.old m.new }
 {
-    let b = prediction_bytes(first);
-    follow(m, PREDICTIONS_START, PREDICTION_BYTES, n, goes, made, &b);
+    follow(
+        m,
+        PREDICTIONS_START,
+        PREDICTION_BYTES,
+        n,
+        goes,
+        made,
+        &prediction_bytes(first),
+    );
 }

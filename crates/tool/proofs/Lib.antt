@@ -4,3 +4,4 @@ pub mod Runs
 pub mod Only
 pub mod Refuses
 pub mod Accepts
+mod SetUp

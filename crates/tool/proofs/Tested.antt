@@ -3,8 +3,8 @@ use Prim.Native.Nat.{ℕ, ◌≤◌}
 use native.Mathlib.Omega.{arith}
 use mathlib.Core.Path.{◌≡◌, refl, ap, sym, ◌∙◌}
 use mathlib.Core.Bool.{Bool, true, false, ◌&&◌}
-use mathlib.Core.List.{List}
-use lib.ListN.{length, take, drop}
+use mathlib.Core.List.{List, []}
+use lib.ListN.{length, get_or, take, drop}
 use lib.Seq.{length-take-le}
 use borrow.Author.Tests.{eq-eqb}
 use Rattle.lists.specs.Lists.{every}
@@ -13,8 +13,9 @@ use Rattle.rules.specs.declared.tool.Tool.{Tool}
 use Rattle.rules.specs.State as base
 use Rattle.rules.specs.Sound as base_sound
 use Rattle.rules.specs.Held.{Held}
-use Rattle.rules.proofs.Holding.{tool_sound, count_held}
-use Rattle.image.specs.Image.{bytes_from}
+use Rattle.rules.proofs.Holding.{tool_sound, count_held, sound_held}
+use Rattle.image.specs.Image.{bytes_from, tool_from}
+use Rattle.image.proofs.Laid.{ports_long, carriers_long}
 use Rattle.image.proofs.Table.{table_same}
 use Rattle.passes.specs.Passes.{is_zero}
 use Rattle.follow.specs.Follow.{KeptOutside}
@@ -64,9 +65,20 @@ module _ (t : Tool) (m : List ℕ) (h : base_sound.sound_tool t ≡ true) (k : H
   unfolding maps.sound
   state_sound = rw (tool_sound t h, eq-eqb _ _ as_many)
 
-  pub maps_tested : (every is_kept (take t.count (maps_from m)) && every is_none (drop t.count (maps_from m))) ≡ maps.sound_tool both
+  maps_tested : (every is_kept (take t.count (maps_from m)) && every is_none (drop t.count (maps_from m))) ≡ maps.sound_tool both
   unfolding maps.sound_tool
   maps_tested = rw (h, state_sound) (and_comm (every is_kept (take t.count (maps_from m))) _)
+
+-- what document 01's test finds
+module _ (m : List (List ℕ)) (h : base_sound.sound_tool (tool_from (get_or m 0 [])) ≡ true) where
+  pub held_when : Held (tool_from (get_or m 0 []))
+  held_when = let b = get_or m 0 [] in sound_held (tool_from b) (ports_long b) (carriers_long b) h
+
+  pub maps_tested_of : (n : ℕ) → n ≡ (tool_from (get_or m 0 [])).count → (b : Bool)
+      → b ≡ (every is_kept (take n (maps_from (own_in m))) && every is_none (drop n (maps_from (own_in m)))) → b ≡ maps.sound_tool (mapped_in m)
+  maps_tested_of n e b f =
+      f ∙ ap (λ n. every is_kept (take n (maps_from (own_in m))) && every is_none (drop n (maps_from (own_in m)))) e
+      ∙ maps_tested (tool_from (get_or m 0 [])) (own_in m) h held_when
 
 unsound_below : (t : QueuedTool) → maps.sound_tool t.mapped ≡ false → queue.sound_tool t ≡ false
 unfolding queue.sound_tool

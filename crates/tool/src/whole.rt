@@ -1,9 +1,8 @@
 // Two blocks of bytes: document 01's tool, and what requests add to it.
-ghost use Rattle.std.specs.Prelude.{◌≡◌, cond, replicate};
-ghost use Rattle.rules.specs.Seen.{input_of};
+ghost use Rattle.std.specs.Prelude.{◌≡◌};
+ghost use Rattle.records.specs.Refusals.{answer};
 ghost use Rattle.image.specs.Image.{reports_from};
-ghost use Rattle.prediction.specs.State.{timed};
-ghost use Rattle.wafers.specs.Outcome.{bringing};
+ghost use Rattle.wafers.specs.Outcome.{brought_in};
 ghost use Rattle.tool.specs.Whole.{whole_in, sound_whole, set_up, outcome};
 
 use crate::layout::*;
@@ -13,49 +12,30 @@ use handled::step::handled_step;
 use image::layout::*;
 use image::read::count;
 use image::report::no_reports;
-use image::write::clear;
 use line::sound::sound_queue;
 use machine::setup::setup;
 use mapped::kept::sound_maps;
 use passes::bytes::zeros;
-use records::choose::wide;
+use records::refusal::Refusal;
 use soundness::whole::sound;
-use ticks::seconds::Sent;
 use times::sound::{sound_predictions, sound_times};
 use times::words::SPAN_MOST;
 use times::write::put_spans;
+use wafers::input::Brought;
 
 // Whether all of it is sound: the one place where this is tested.
 pub fn whole_sound(m: &[[u8; TOOL_BYTES]; BLOCKS]) -> bool
     ensures { result ≡ sound_whole (whole_in m.now) }
 {
-    if sound(&m[0]) {
-        let n = wide(count(&m[0]));
-        let maps = sound_maps(&m[1], n);
-        let queue = sound_queue(m);
-        let times = sound_times(&m[1]);
-        let predictions = sound_predictions(m);
-        let alarms = sound_alarms(m);
-        maps & queue & times & predictions & alarms & zeros(&m[1], UNUSED_START, UNUSED_BYTES)
-    } else {
-        false
+    if !sound(&m[0]) {
+        return false;
     }
-}
-
-// Lent as a slice, an array's length is known from then on.
-fn blocks(m: &[[u8; TOOL_BYTES]]) {}
-
-fn clear_block(m: &mut [u8; TOOL_BYTES])
-    ensures { m.new ≡ replicate 1891 0 }
-{
-    clear(m);
-}
-
-// No tool has 0 ports: so set-up is refused with it.
-fn ports_if(fine: bool, ports: u32) -> u32
-    ensures { result ≡ cond fine ports 0 }
-{
-    if fine { ports } else { 0 }
+    let maps = sound_maps(&m[1], usize::from(count(&m[0])));
+    let queue = sound_queue(m);
+    let times = sound_times(&m[1]);
+    let predictions = sound_predictions(m);
+    let alarms = sound_alarms(m);
+    maps & queue & times & predictions & alarms & zeros(&m[1], UNUSED_START, UNUSED_BYTES)
 }
 
 pub fn whole_setup(
@@ -64,46 +44,32 @@ pub fn whole_setup(
     places: u32,
     setting: u32,
     timeout: u32,
-) -> u8
+) -> Result<(), Refusal>
     ensures m_after { whole_in m.new ≡ (set_up ports places setting timeout).tool }
-    ensures value { result ≡ (set_up ports places setting timeout).answer }
+    ensures value { answer result ≡ (set_up ports places setting timeout).answer }
 {
-    blocks(m);
-    clear_block(&mut m[1]);
-    let fine = (setting <= SPAN_MOST) & (timeout <= SPAN_MOST);
-    let answer = setup(&mut m[0], ports_if(fine, ports), places);
-    if answer == 0 {
-        put_spans(&mut m[1], setting, timeout);
-        0
-    } else {
-        answer
-    }
+    m[1] = [0; TOOL_BYTES];
+    // no tool has 0 ports: so set-up is refused with it
+    let timely = (setting <= SPAN_MOST) & (timeout <= SPAN_MOST);
+    let asked = if timely { ports } else { 0 };
+    setup(&mut m[0], asked, places)?;
+    put_spans(&mut m[1], setting, timeout);
+    Ok(())
 }
 
 // Any input to any tool: the answer, the tool that follows, and the reports.
 pub fn whole_step(
     m: &mut [[u8; TOOL_BYTES]; BLOCKS],
     o: &mut [u8; REPORTS_BYTES],
-    number: u32,
-    port: u32,
-    value: u32,
-    name: &[u8],
-    codes: &[u8],
-    clock: u32,
-    time: u32,
-    wafers: Sent,
-) -> u8
-    ensures m_after { whole_in m.new ≡ (outcome (whole_in m.old)
-        (bringing (timed (input_of number port value name.now codes.now) clock time) wafers)).tool }
-    ensures o_after { reports_from o.new ≡ (outcome (whole_in m.old)
-        (bringing (timed (input_of number port value name.now codes.now) clock time) wafers)).reports }
-    ensures value { result ≡ (outcome (whole_in m.old)
-        (bringing (timed (input_of number port value name.now codes.now) clock time) wafers)).answer }
+    i: Brought,
+) -> Result<(), Refusal>
+    ensures m_after { whole_in m.new ≡ (outcome (whole_in m.old) (brought_in i.entry)).tool }
+    ensures o_after { reports_from o.new ≡ (outcome (whole_in m.old) (brought_in i.entry)).reports }
+    ensures value { answer result ≡ (outcome (whole_in m.old) (brought_in i.entry)).answer }
 {
-    if whole_sound(m) {
-        handled_step(m, o, number, port, value, name, codes, clock, time, wafers)
-    } else {
+    if !whole_sound(m) {
         no_reports(o);
-        1
+        return Err(Refusal::OutOfRange);
     }
+    handled_step(m, o, i)
 }

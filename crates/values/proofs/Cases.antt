@@ -4,13 +4,13 @@ use mathlib.Core.Bool.{true}
 use lib.IntN.{pos, negsuc}
 use lib.Ieee.{of_bits, to_bits, nan_bits}
 use Rattle.lists.specs.Lists.{every}
-use Rattle.items.specs.Formats.{I8, I1, I2, I4, size_of}
+use Rattle.items.specs.Formats.{I8, I1, I2, I4, coded, size_of}
 use Rattle.items.specs.Heads.{number_at}
-use Rattle.values.specs.Values.{f4_of, f8_of, signed_of, unsigned_of, half_of, number_of, value_in, format_of, bits_of}
+use Rattle.values.specs.Values.{f4_of, f8_of, signed_of, unsigned_of, half_of, number_of, held_in, format_of, bits_of}
 use Rattle.values.specs.Cases.{cases, shown}
 
 pub all_shown : every shown cases ≡ true
-unfolding every size_of number_at f4_of f8_of signed_of unsigned_of half_of number_of value_in format_of bits_of shown of_bits to_bits nan_bits
+unfolding every coded size_of number_at f4_of f8_of signed_of unsigned_of half_of number_of held_in format_of bits_of shown of_bits to_bits nan_bits
 all_shown = refl
 
 pub record Signs : Type 0 where

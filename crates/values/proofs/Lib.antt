@@ -1,5 +1,5 @@
 pub mod Floats
+pub mod Signed
 pub mod Sizes
-pub mod Chosen
 pub mod Untouched
 pub mod Cases

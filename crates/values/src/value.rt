@@ -1,31 +1,30 @@
 // A value of an attribute: its format, and its bits untouched.
-ghost use Rattle.std.specs.Prelude.{◌≡◌, ◌<◌, ◌^◌, ◌≤◌, ◌+◌};
+ghost use Rattle.std.specs.Prelude.{◌≡◌, ◌<◌, ◌^◌, ◌||◌, eqb};
 ghost use Rattle.items.specs.declared.head.Span.{Span};
-ghost use Rattle.items.specs.Formats.{size_of};
-ghost use Rattle.values.specs.Values.{f4_of, f8_of, signed_of, half_of, is_signed, number_of, value_in};
+ghost use Rattle.items.specs.Formats.{BINARY, ASCII, code, size_of};
+ghost use Rattle.values.specs.Values.{f4_of, f8_of, number_of, value_in};
 
-use items::formats::*;
+use items::formats::Format;
 use items::head::*;
 
 #[derive(Clone, Copy)]
 pub enum Value {
-    // the format's code, and the number
-    Unsigned(usize, u64),
-    Signed(usize, i64),
+    // the format, and the number
+    Unsigned(Format, u64),
+    Signed(Format, i64),
     // the byte that was sent: 0 is false
     Boolean(u8),
-    // binary or text: the format's code, and where it stands
-    Bytes(usize, Span),
+    // binary or text: the format, and where it stands
+    Bytes(Format, Span),
     F4(f32),
     F8(f64),
     // the bits of a NaN, which a float would lose
     Nan4(u32),
     Nan8(u64),
-    // a list, or an item that doesn't hold one value
-    Nothing,
 }
 
-// An F4 of its 32 bits: above those of an infinity they are a NaN's.
+// An F4 of its 32 bits: above those of an infinity they are a NaN's. F4 and F8 stand beside each other: a trait over both
+// floats, with its laws, would be longer than the second function.
 fn f4(bits: u32) -> Value
     ensures { result ≡ f4_of bits }
 {
@@ -49,82 +48,42 @@ fn f8(bits: u64) -> Value
     }
 }
 
-// The number of a sign in two's complement, where `half` is 2 to the bits less one.
-fn signed(bits: u64, half: u64) -> i64
-    requires half_bound { half ≤ 2 ^ 63 }
-    requires bits_bound { bits < half + half }
-    ensures { result ≡ signed_of bits half }
+// A number or boolean of its bits, a sign in two's complement; no value of any other format.
+#[tactic(auto, unfolding(items::specs::Formats::size_of, crate::specs::Values::number_of))]
+fn number_of(format: Format, bits: u64) -> Option<Value>
+    requires { bits < 256 ^ size_of (code format) }
+    ensures { result ≡ number_of format bits }
 {
-    if bits < half {
-        bits as i64
-    } else {
-        -1 - ((half - 1 - (bits - half)) as i64)
+    match format {
+        Format::U1 | Format::U2 | Format::U4 | Format::U8 => Some(Value::Unsigned(format, bits)),
+        Format::I1 => Some(Value::Signed(format, i64::from((bits as u8).cast_signed()))),
+        Format::I2 => Some(Value::Signed(format, i64::from((bits as u16).cast_signed()))),
+        Format::I4 => Some(Value::Signed(format, i64::from((bits as u32).cast_signed()))),
+        Format::I8 => Some(Value::Signed(format, bits.cast_signed())),
+        Format::Boolean => Some(Value::Boolean(bits as u8)),
+        Format::F4 => Some(f4(bits as u32)),
+        Format::F8 => Some(f8(bits)),
+        Format::List | Format::Binary | Format::Ascii => None,
     }
 }
 
-// Half of what I1, I2, I4 and I8 can hold.
-fn half_of(code: usize) -> u64
-    ensures { result ≡ half_of code }
+fn is_bytes(format: Format) -> bool
+    ensures { result ≡ (eqb (code format) BINARY || eqb (code format) ASCII) }
 {
-    if code == I1 {
-        return 0x80;
-    }
-    if code == I2 {
-        return 0x8000;
-    }
-    if code == I4 {
-        return 0x8000_0000;
-    }
-    0x8000_0000_0000_0000
+    matches!(format, Format::Binary | Format::Ascii)
 }
 
-fn is_signed(code: usize) -> bool
-    ensures { result ≡ is_signed code }
-{
-    (code == I1) | (code == I2) | (code == I4) | (code == I8)
-}
-
-// A number or boolean of its bits.
-fn number_of(code: usize, bits: u64) -> Value
-    requires { bits < 256 ^ size_of code }
-    ensures { result ≡ number_of code bits }
-{
-    if is_unsigned(code) {
-        return Value::Unsigned(code, bits);
-    }
-    if is_signed(code) {
-        let half = half_of(code);
-        let number = signed(bits, half);
-        return Value::Signed(code, number);
-    }
-    if code == BOOLEAN {
-        return Value::Boolean(bits as u8);
-    }
-    if code == F4 {
-        return f4(bits as u32);
-    }
-    if code == F8 {
-        return f8(bits);
-    }
-    Value::Nothing
-}
-
-// What the data at a position hold, of a format and a length.
-pub fn value_in(msg: &[u8], code: usize, at: usize, many: usize) -> Value
+// What the data at a position hold, of a format's code and a length: nothing for a list, or for an item that doesn't hold one
+// value.
+pub fn value_in(msg: &[u8], code: usize, at: usize, many: usize) -> Option<Value>
     ensures { result ≡ value_in msg.now code (record { at = at; many = many }) }
 {
-    if (code == BINARY) | (code == ASCII) {
-        return Value::Bytes(code, Span { at, many });
+    let format = Format::of(code)?;
+    if is_bytes(format) {
+        return Some(Value::Bytes(format, Span { at, many }));
     }
-    if many != size_of(code) {
-        return Value::Nothing;
+    if many != format.size() || msg.len() < at || msg.len() - at < many {
+        return None;
     }
-    if msg.len() < at {
-        return Value::Nothing;
-    }
-    if msg.len() - at < many {
-        return Value::Nothing;
-    }
-    let bits = number(msg, at, many) as u64;
-    number_of(code, bits)
+    number_of(format, number(msg, at, many) as u64)
 }

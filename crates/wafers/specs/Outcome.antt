@@ -3,12 +3,13 @@ use Rattle.std.specs.Prelude.{ℕ, ◌+◌, Bool, cond, ◌&&◌, List, [], ◌�
 use Rattle.rules.specs.declared.report.Report.{Report}
 use Rattle.rules.specs.Seen.{input_of}
 use Rattle.rules.specs.Row.{lower}
-use Rattle.prediction.specs.State.{Predicted, PredictedTool, state_of, Timed, timed}
+use Rattle.prediction.specs.State.{Predicted, PredictedTool, state_of, Timed, timed, timed_in}
 use Rattle.prediction.specs.Sound.{is_time}
 use Rattle.prediction.specs.Outcome as prediction
 use Rattle.prediction.specs.Outcome.{Given, refused, accepted}
 use Rattle.ticks.specs.declared.seconds.Sent.{Sent}
 use Rattle.ticks.specs.Wafers.{wafers_from}
+use Rattle.wafers.specs.declared.input.Brought as sent
 
 -- An input brings wafers, too, or what is made of their times: 35 looks at it.
 pub record Brought : Type 0 where
@@ -17,6 +18,17 @@ pub record Brought : Type 0 where
 
 abbrev pub bringing : Timed → Sent → Brought
 bringing i wafers = record { timed = i; wafers = wafers }
+
+-- what the code was sent
+abbrev pub brought_in : sent.Brought → Brought
+brought_in i = bringing (timed_in i.timed) i.wafers
+
+-- an input under another number
+abbrev pub numbered : ℕ → Brought → Brought
+numbered n i =
+    bringing
+    (timed (input_of n i.timed.input.port i.timed.input.value i.timed.input.name i.timed.input.codes) i.timed.clock i.timed.time)
+    i.wafers
 
 -- with the times of wafers, process time and handling time in turn
 abbrev pub brought : Timed → List Float → Brought

@@ -1,17 +1,20 @@
 -- How a search by positions finds the first.
-use Prim.Native.Nat.{ℕ, suc, ◌+◌, ◌≤◌, ◌<◌}
-use native.Mathlib.Nat.{add-zero, add-suc, suc-add, zero-add}
+use Prim.Native.Nat.{ℕ, suc, ◌+◌, ◌<◌, min}
+use native.Mathlib.Nat.{add-zero, add-suc, suc-add}
 use native.Mathlib.Numerals.{add-one}
 use native.Mathlib.Omega.{arith}
-use mathlib.Core.Path.{◌≡◌, refl, sym, ◌∙◌}
+use mathlib.Core.Path.{◌≡◌, refl, sym, ap, ◌∙◌}
 use mathlib.Core.Bool.{Bool, true, false, cond}
 use mathlib.Core.List.{List}
 use lib.ListN.{length, get_or, take, drop, drop_of_length-le}
-use lib.Seq.{drop-cons, take_all}
+use lib.Seq.{drop-cons}
 use lib.Dec.{ltb}
-use borrow.Author.Tests.{ltb-true, ltb-false, lt-ltb, le-ltb}
+use borrow.Author.Tests.{lt-ltb, le-ltb}
+use Rattle.std.specs.List.{position, position_or_len}
+use Rattle.std.proofs.lemmas.List.{length-take-le, take_min}
+use Rattle.std.proofs.lemmas.List.Recursion.{is_position_or_len}
+use Rattle.std.specs.Prelude.{is_some, unwrap_or, Some, None}
 use Rattle.lists.specs.Lists.{where_is}
-use Rattle.lists.proofs.Bools.{cond_ind}
 use Rattle.records.specs.declared.carrier.Carrier.{Carrier}
 use Rattle.waiting.specs.Waiting.{waits, some_waits, first_waiting, answer_in, stopped_at, found_in}
 use Rattle.waiting.proofs.Where.{where_within, where_past}
@@ -19,9 +22,6 @@ use Rattle.waiting.proofs.Where.{where_within, where_past}
 -- none before i waits: the first of the whole is i and the first of what is left
 abbrev pub Passed : List Carrier → ℕ → Type 0
 Passed l i = first_waiting l ≡ i + first_waiting (drop i l)
-
-pub none_passed : (l : List Carrier) → Passed l 0
-none_passed l = sym (zero-add (first_waiting l))
 
 module _ (l : List Carrier) (i : ℕ) (d : Carrier) (b : i < length l) (p : Passed l i) where
   pub one_passed : waits (get_or l i d) ≡ false → Passed l (i + 1)
@@ -54,12 +54,41 @@ pub says_some : (l : List Carrier) (i : ℕ) → i ≡ first_waiting l → cond 
 unfolding answer_in
 says_some l i e = rw (e, reached l)
 
--- the first n of a table are never more than all m of it
-pub at_most : (m n : ℕ) → cond (ltb m n) m n ≤ m
-at_most m n = cond_ind (λ k. k ≤ m) (ltb m n) (λ e. omega arith) (λ e. ltb-false m n e)
+one_more : (n : ℕ) → 1 + n ≡ suc n
+one_more n = omega arith
 
-pub no_more : {A : Type 0} (l : List A) (m n : ℕ) → length l ≡ m → take (cond (ltb m n) m n) l ≡ take n l
-no_more l m n h = cond_ind (λ k. take k l ≡ take n l) (ltb m n) (λ e. whole (ltb-true m n e)) (λ e. refl)
+-- the library's position of the first that waits, and whether it has one
+first_is : (l : List Carrier) → first_waiting l ≡ position_or_len waits l
+unfolding where_is
+first_is l = is_position_or_len first_waiting waits refl (λ x xs. rw (one_more (first_waiting xs))) l
+
+split : (l : List Carrier) → position waits l ≡ cond (some_waits l) (Some (first_waiting l)) None
+split l = rw (reached l, first_is l)
+
+pub first_or_end : (l : List Carrier) → unwrap_or (position waits l) (length l) ≡ first_waiting l
+first_or_end l = rw (split l) (go (some_waits l) refl)
   where
-    whole : m < n → take m l ≡ take n l
-    whole b = take_all m l (omega arith) ∙ sym (take_all n l (omega arith))
+    go : (w : Bool) → some_waits l ≡ w → unwrap_or (cond w (Some (first_waiting l)) None) (length l) ≡ first_waiting l
+    go true h = refl
+    go false h = sym (where_past waits l h)
+
+first_there : (l : List Carrier) → is_some (position waits l) ≡ some_waits l
+first_there l = rw (split l) (go (some_waits l))
+  where
+    go : (w : Bool) → is_some (cond w (Some (first_waiting l)) None) ≡ w
+    go true = refl
+    go false = refl
+
+pub says_there : (l : List Carrier) → cond {A = ℕ} (is_some (position waits l)) 1 0 ≡ answer_in l
+unfolding answer_in
+says_there l = rw (first_there l)
+
+-- a search of the first n of a table of m, n the lesser of m and the count that was asked for
+pub searched : (table : List Carrier) (count m n i : ℕ) → length table ≡ m → n ≡ min count m
+    → i ≡ unwrap_or (position waits (take n table)) n → stopped_at i n ≡ found_in (take count table)
+searched table count m n i long few stops =
+    let looked : length (take n table) ≡ n = length-take-le n table (omega arith) in
+    let same : take n table ≡ take count table = rw (few, ← long) (take_min count table) in
+    let first : i ≡ first_waiting (take n table) =
+    stops ∙ ap (unwrap_or (position waits (take n table))) (sym looked) ∙ first_or_end (take n table) in
+    ap (stopped_at i) (sym looked) ∙ says_first (take n table) i first ∙ ap found_in same

@@ -1,5 +1,5 @@
 // Who waits, and what a search answers.
-ghost use Rattle.std.specs.Prelude.{◌≡◌, cond, ltb};
+ghost use Rattle.std.specs.Prelude.{◌≡◌, cond, ltb, position};
 ghost use Rattle.waiting.specs.Waiting.{waits, stopped_at};
 
 use records::carrier::Carrier;
@@ -14,26 +14,29 @@ pub struct Found {
 }
 
 // Whether a carrier waits for the host, by ID or by slot map.
+#[tactic(auto, unfolding(crate::specs::Waiting::waits))]
 pub fn waits_for_host(c: Carrier) -> bool
     ensures { result ≡ waits c }
 {
-    (c.id == WAITING) | (c.slot == WAITING)
+    c.id == WAITING || c.slot == WAITING
+}
+
+// Where the first stands that waits.
+pub fn first_waiting(table: &[Carrier]) -> Option<usize>
+    ensures { result ≡ position waits table.now }
+{
+    table.iter().position(|carrier| waits_for_host(*carrier))
 }
 
 // What a search says that stopped at a position of a table of n records, or at its end.
+#[tactic(auto, unfolding(crate::specs::Waiting::stopped_at))]
 pub fn stopped_at(at: usize, n: usize) -> Found
     ensures { result ≡ stopped_at at n }
 {
-    if at < n {
-        Found {
-            position: at as u64,
-            read: (at + 1) as u64,
-        }
-    } else {
-        Found {
-            position: at as u64,
-            read: n as u64,
-        }
+    let read = if at < n { at + 1 } else { n };
+    Found {
+        position: at as u64,
+        read: read as u64,
     }
 }
 
@@ -41,5 +44,5 @@ pub fn stopped_at(at: usize, n: usize) -> Found
 pub fn before_end(at: usize, n: usize) -> u32
     ensures { result ≡ cond (ltb at n) 1 0 }
 {
-    if at < n { 1 } else { 0 }
+    u32::from(at < n)
 }

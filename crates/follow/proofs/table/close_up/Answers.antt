@@ -1,36 +1,34 @@
-use Rattle.std.proofs.Common.{rules}
+-- the bytes that are passed have moved up
 use native.Mathlib.Omega.{arith}
-use mathlib.Core.Path.{ap, ◌∙◌}
-use lib.ListN.{length}
-use Rattle.image.specs.Image.{table}
-use Rattle.image.proofs.Table.{length_table}
-use Rattle.follow.specs.Follow.{closed_up}
-use Rattle.follow.proofs.Closed.{closed_whole}
+use Rattle.std.proofs.Common.{rules}
+use Prim.Native.Nat.{◌+◌, ◌-◌}
+use mathlib.Core.Path.{◌≡◌, ap, sym, ◌∙◌}
+use lib.ListN.{length, replicate}
+use Rattle.image.specs.Image.{byte_at}
+use Rattle.follow.specs.Follow.{byte_before}
+use Rattle.follow.proofs.Closed.{before_in, none_moved, unmoved, one_moved, closed_whole}
 use Rattle.follow.proofs.table.close_up.Goals as goal
 
-pub moved_up-j-requires : goal.moved_up-j-requires
-moved_up-j-requires c = record { o_le_e = search rules; w_bound = search rules; e_in_bounds = search rules; m_len_bound = search rules }
+pub loop-j-init : goal.loop-j-init
+loop-j-init c = let a = c.args in none_moved a.m.now a.o a.w a.e
 
-pub clear_up_to-requires : goal.clear_up_to-requires
-clear_up_to-requires c =
+pub loop-j-preserved : goal.loop-j-preserved
+loop-j-preserved c =
     let a = c.args in
     let m = a.m.now in
-    let l = ap length c.moved_up-j.ensures.m_after ∙ length_table (length m) (closed_up m a.o a.w a.e c.moved_up-j.result) in
-    record { o_le_e = c.moved_up-j.ensures.lower_bound.1; e_in_bounds = omega arith; m_len_bound = omega arith }
-
-pub shape_of-m : goal.shape_of-m
-shape_of-m c =
-    let a = c.args in
-    ap length ((let a = c.args in
-    let k = c.moved_up-j.ensures.lower_bound in
-    c.clear_up_to.ensures
-    ∙ ap (λ x. table (length x) (closed_up x c.moved_up-j.result a.e a.e a.e)) c.moved_up-j.ensures.m_after
-    ∙ closed_whole a.m.now a.o a.w a.e c.moved_up-j.result k.0 k.1 k.2)) ∙ length_table (length a.m.now) (closed_up a.m.now a.o a.w a.e a.e)
+    let j = c.loop-j.j in
+    let v = c.loop-j.invariant in
+    let r : byte_at c.loop-j.m (j + a.w) ≡ byte_before m a.e (j + a.w) =
+    sym (before_in c.loop-j.m a.e (j + a.w) (omega arith)) ∙ ap (λ l. byte_before l a.e (j + a.w)) v
+    ∙ unmoved m a.o a.w a.e j (j + a.w) (omega arith) (omega arith) in
+    rw (r, v) (one_moved m a.o a.w a.e j (omega arith))
 
 pub returns : goal.returns
 returns c =
     let a = c.args in
-    let k = c.moved_up-j.ensures.lower_bound in
-    c.clear_up_to.ensures
-    ∙ ap (λ x. table (length x) (closed_up x c.moved_up-j.result a.e a.e a.e)) c.moved_up-j.ensures.m_after
-    ∙ closed_whole a.m.now a.o a.w a.e c.moved_up-j.result k.0 k.1 k.2
+    let r = c.if-o-w.end in
+    let z : c.loop-j.j ≡ r = omega arith in
+    let k : length c.fill.new.self ≡ a.e - r = search rules in
+    let f : c.fill.new.self ≡ replicate (length c.fill.new.self) 0 = search rules in
+    rw (rw z at c.loop-j.invariant)
+    (closed_whole a.m.now a.o a.w a.e r (omega arith) (omega arith) (omega arith) c.fill.new.self c.requires.e_in_bounds (rw k at f))

@@ -6,6 +6,7 @@ use lib.Seq.{set_out}
 use Rattle.follow.specs.Follow.{added, entries_from, KeptOutside}
 use Rattle.follow.proofs.Entries.{in_order, entries_long, entry_put, put_keeps, kept_all}
 use Rattle.follow.proofs.table.entry_added.Goals as goal
+use Rattle.follow.proofs.table.entry_added.Goals.{else-made-via-then-made+else-k-lt-RECORDS, else-made-via-else-made}
 
 pub overflow_mul-w : goal.overflow_mul-w
 overflow_mul-w c = let a = c.args in let b = in_order a.w a.k 36 (omega arith) in omega arith
@@ -29,12 +30,15 @@ returns-then-k-lt-RECORDS c =
       kept_outside = subst⁻¹ (KeptOutside _ _ m) e (put_keeps a.o a.w m l c.requires.w_bound a.k c.if-k-lt-RECORDS.true a.x.now c.requires.x_len);
     }
 
-pub returns-else-k-lt-RECORDS : goal.returns-else-k-lt-RECORDS
-unfolding added
-returns-else-k-lt-RECORDS c =
-    let a = c.args in
-    let n = entries_long a.o a.w a.m.now in record { w_after = rw c.if-made.true (sym (set_out (entries_from a.m.now a.o a.w) a.k a.x.now (omega (arith, c.if-k-lt-RECORDS.false)))); kept_outside = kept_all _ _ _ }
-
 pub returns-else-made : goal.returns-else-made
 unfolding added
-returns-else-made c = record { w_after = rw c.if-made.false; kept_outside = kept_all _ _ _ }
+returns-else-made c =
+    let a = c.args in
+    let n = entries_long a.o a.w a.m.now in
+    elim c.else-made.branch [
+      | else-made-via-then-made+else-k-lt-RECORDS w ↦ record {
+        w_after = rw w.if-made.true (sym (set_out (entries_from a.m.now a.o a.w) a.k a.x.now (omega (arith, w.if-k-lt-RECORDS.false))));
+        kept_outside = kept_all _ _ _;
+      }
+      | else-made-via-else-made w ↦ record { w_after = rw w.if-made.false; kept_outside = kept_all _ _ _ }
+    ]

@@ -9,7 +9,7 @@ use Rattle.handled.proofs.sound.sound_at.Goals as goal
 pub returns-then-p-used : goal.returns-then-p-used
 unfolding sound_at tool_from port_at
 returns-then-p-used c =
-    rw (sym c.used.ensures, le-leb _ _ c.if-p-used.true) (c.agrees.ensures ∙ ap₂ agrees c.port_at-q.ensures c.alarm_at-a.ensures)
+    rw (sym c.used.ensures, le-leb _ _ c.if-p-used.true) (c.agrees.ensures ∙ ap₂ agrees c.port_at.ensures c.alarm_at-a.ensures)
 
 pub returns-else-p-used : goal.returns-else-p-used
 unfolding sound_at tool_from port_at

@@ -3,7 +3,7 @@ use native.Mathlib.Omega.{arith}
 use native.Mathlib.Nat.{pow-suc, pow-le-pow_right, lt_of_lt_of_le}
 use native.Mathlib.Numerals.{add-one}
 use Prim.Native.Nat.{ℕ, ◌+◌, ◌*◌, ◌^◌, ◌<◌, ◌≤◌}
-use mathlib.Core.Path.{◌≡◌, refl}
+use mathlib.Core.Path.{refl}
 use lib.Dec.{lit<}
 use Rattle.items.specs.Heads.{number_at}
 use Rattle.items.proofs.head.number.Goals as goal
@@ -16,28 +16,21 @@ more v b i h l = rw (add-one i, pow-suc 256 i) (omega arith)
 
 pub loop-i-init : goal.loop-i-init
 unfolding number_at
-loop-i-init c = (omega arith, refl, omega arith)
+loop-i-init c = record { value = refl; room = omega arith }
 
 pub overflow_mul-v : goal.overflow_mul-v
-overflow_mul-v c = let h = room c.loop-i.v c.loop-i.i c.loop-i.invariant.2 (omega arith) in omega arith
+overflow_mul-v c = let h = room c.loop-i.v c.loop-i.i c.loop-i.invariant.room (omega arith) in omega arith
 
 pub overflow_add-v : goal.overflow_add-v
 overflow_add-v c =
-    let l = c.loop-i in
-    let h = room l.v l.i l.invariant.2 (omega arith) in
-    omega (arith, c.byte.ensures.upper_bound)
+    let h = room c.loop-i.v c.loop-i.i c.loop-i.invariant.room (omega arith) in
+    omega arith
 
 pub loop-i-preserved : goal.loop-i-preserved
 unfolding number_at
 loop-i-preserved c =
-    let l = c.loop-i in (
-      omega arith,
-      rw (add-one l.i, c.byte.ensures.value, l.invariant.1),
-      more l.v c.byte.result l.i l.invariant.2 c.byte.ensures.upper_bound,
-    )
-
-pub returns : goal.returns
-returns c =
     let l = c.loop-i in
-    let e : l.i ≡ c.args.n = omega arith in
-    record { value = rw e at l.invariant.1; upper_bound = rw e at l.invariant.2 }
+    record {
+      value = rw (add-one l.i, c.from.ensures, c.byte.ensures, l.invariant.value);
+      room = more l.v c.from.result l.i l.invariant.room (omega arith);
+    }

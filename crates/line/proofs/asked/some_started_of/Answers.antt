@@ -1,11 +1,14 @@
+use Rattle.std.proofs.Common.{rules, tests}
 use mathlib.Core.Path.{ap, ◌∙◌}
+use Rattle.queue.proofs.Ranges.{some_where}
+use Rattle.line.specs.Bytes.{queue_of}
+use Rattle.std.specs.Option.{is_some}
+use Rattle.records.proofs.Names.{equal_names}
 use Rattle.queue.specs.Requests.{started_of}
-use Rattle.line.specs.Bytes.{found_in}
-use Rattle.line.proofs.Changed.{some_told}
+use Rattle.queue.specs.Requests.{started_of}
 use Rattle.line.proofs.asked.some_started_of.Goals as goal
 
 pub returns : goal.returns
-unfolding found_in
 returns c =
-    some_told c.args.m.now c.requires (started_of c.args.name) _ _ (ap (λ f. f.runs) c.found-f.ensures)
-    (c.wide.ensures ∙ c.waiting.ensures)
+    let f = started_of c.args.name in
+    c.is_some.ensures ∙ ap is_some (c.stands.ensures f (λ r b k. search (rules, tests, equal_names))) ∙ some_where f (queue_of c.args.m.now)

@@ -1,11 +1,10 @@
 use mathlib.Core.Path.{ap, ◌∙◌}
+use Rattle.queue.proofs.Ranges.{some_where}
+use Rattle.line.specs.Bytes.{queue_of}
+use Rattle.std.specs.Option.{is_some}
 use Rattle.queue.specs.Requests.{started_to}
-use Rattle.line.specs.Bytes.{found_in}
-use Rattle.line.proofs.Changed.{some_told}
+use Rattle.queue.specs.Requests.{started_to}
 use Rattle.line.proofs.asked.some_started_to.Goals as goal
 
 pub returns : goal.returns
-unfolding found_in
-returns c =
-    some_told c.args.m.now c.requires (started_to c.args.port) _ _ (ap (λ f. f.to) c.found-f.ensures)
-    (c.wide.ensures ∙ c.waiting.ensures)
+returns c = c.is_some.ensures ∙ ap is_some c.started_at.ensures ∙ some_where (started_to c.args.port) (queue_of c.args.m.now)

@@ -1,11 +1,10 @@
 use mathlib.Core.Path.{ap, ◌∙◌}
+use Rattle.queue.proofs.Ranges.{some_where}
+use Rattle.line.specs.Bytes.{queue_of}
+use Rattle.std.specs.Option.{is_some}
 use Rattle.queue.specs.Requests.{waits_of}
-use Rattle.line.specs.Bytes.{found_in}
-use Rattle.line.proofs.Changed.{some_told}
+use Rattle.queue.specs.Requests.{waits_of}
 use Rattle.line.proofs.asked.some_waits_of.Goals as goal
 
 pub returns : goal.returns
-unfolding found_in
-returns c =
-    some_told c.args.m.now c.requires (waits_of c.args.name) _ _ (ap (λ f. f.waits) c.found-f.ensures)
-    (c.wide.ensures ∙ c.waiting.ensures)
+returns c = c.is_some.ensures ∙ ap is_some c.waits_at.ensures ∙ some_where (waits_of c.args.name) (queue_of c.args.m.now)

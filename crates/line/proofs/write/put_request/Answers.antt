@@ -12,6 +12,6 @@ returns c =
     let a = c.args in
     let m = a.m.now in
     let l : length m ≡ 1891 = search rules in
-    let w = c.request_bytes-b.ensures.bytes_len in
-    let e = c.put.ensures ∙ ap (λ x. sets m (request_start a.k) x) c.request_bytes-b.ensures.value in
+    let w = c.request_bytes.ensures.bytes_len in
+    let e = c.put.ensures ∙ ap (λ x. sets m (request_start a.k) x) c.request_bytes.ensures.value in
     record { m_after = ap queue_from e ∙ queue_put m l a.k c.requires a.r w; kept_outside = subst⁻¹ (KeptOutside 901 1189 m) e (put_keeps m l a.k c.requires a.r w) }

@@ -12,24 +12,23 @@ use Rattle.machine.proofs.setup.fresh_ports.Goals as goal
 
 pub loop-k-init : goal.loop-k-init
 loop-k-init c =
-    (omega arith, c.requires.p_bound, c.fresh-fresh.ensures, c.requires.m_value ∙ ap (to_ports no_tool) (fill_none 4 no_port))
+    (omega arith, c.requires.p_bound, c.requires.m_value ∙ ap (to_ports no_tool) (fill_none 4 no_port))
 
 pub loop-k-preserved : goal.loop-k-preserved
 loop-k-preserved c =
     let m = c.loop-k.m in
     let k = c.loop-k.k in
     let i = c.loop-k.invariant in
-    let q = rw i.2 at c.put_port.ensures.m_after in (
+    let q = rw c.fresh.ensures at c.put_port.ensures.m_after in (
       omega arith,
       i.1,
-      i.2,
       ap tool_from q
           ∙ port_put m c.put_port.ensures.m_len k new_port (omega arith) refl
-          ∙ ap (λ t. to_ports t (set t.ports k new_port)) i.3
+          ∙ ap (λ t. to_ports t (set t.ports k new_port)) i.2
           ∙ ap (to_ports no_tool) (fill_repeat 4 no_port new_port k),
     )
 
 pub returns : goal.returns
 returns c =
     let z : c.loop-k.k ≡ c.args.p = omega arith in
-    rw z at c.loop-k.invariant.3
+    rw z at c.loop-k.invariant.2

@@ -1,5 +1,5 @@
 -- The ports that are passed are as at set-up, the others none.
-use Prim.Native.Nat.{◌≤◌, ◌-◌}
+use Prim.Native.Nat.{◌≤◌}
 use mathlib.Core.Path.{◌≡◌}
 use lib.ListN.{replicate}
 use Rattle.lists.specs.Lists.{fill}
@@ -10,7 +10,4 @@ use Rattle.parts.specs.Apply.{to_ports}
 use Rattle.machine.proofs.setup.fresh_ports.Given as goal
 
 abbrev pub invariant-loop-k : goal.invariant-loop-k
-invariant-loop-k l = (l.k ≤ l.p) × (l.p ≤ 4) × (l.fresh ≡ new_port) × (tool_from l.m ≡ to_ports no_tool (fill 4 no_port (replicate l.k new_port)))
-
-abbrev pub decreases-loop-k : goal.decreases-loop-k
-decreases-loop-k l = l.p - l.k
+invariant-loop-k l = (l.k ≤ l.p) × (l.p ≤ 4) × (tool_from l.m ≡ to_ports no_tool (fill 4 no_port (replicate l.k new_port)))

@@ -1,5 +1,5 @@
 -- The maps that are passed are kept ones.
-use Prim.Native.Nat.{◌*◌, ◌≤◌, ◌-◌}
+use Prim.Native.Nat.{◌*◌, ◌≤◌}
 use mathlib.Core.Path.{◌≡◌}
 use Rattle.lists.specs.Lists.{every}
 use Rattle.image.specs.Image.{table, bytes_from}
@@ -8,6 +8,3 @@ use Rattle.mapped.proofs.kept.all_kept.Given as goal
 
 abbrev pub invariant-loop-k : goal.invariant-loop-k
 invariant-loop-k l = (l.k ≤ l.n) × (l.n ≤ 36) × (l.ok ≡ every is_kept (table l.k (λ k'. bytes_from l.m (25 * k') 25)))
-
-abbrev pub decreases-loop-k : goal.decreases-loop-k
-decreases-loop-k l = l.n - l.k

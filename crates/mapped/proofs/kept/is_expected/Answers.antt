@@ -1,34 +1,27 @@
--- From the end: the codes that are passed are 1 or 3.
-use Rattle.std.proofs.Common.{rules}
-use borrow.Author.Tests.{ne_eqb}
 use native.Mathlib.Omega.{arith}
-use mathlib.Core.Path.{◌≡◌, refl}
-use mathlib.Core.Bool.{Bool, true, false, ◌||◌}
-use Rattle.lists.specs.Lists.{every}
-use Rattle.lists.proofs.Loops.{back, ended}
-use Rattle.maps.specs.Expected.{is_expected}
+use mathlib.Core.Path.{◌≡◌, sym, ◌∙◌}
+use mathlib.Core.Bool.{true, false}
+use lib.Dec.{eqb}
+use lib.ListN.{length}
+use borrow.Author.Tests.{ne_eqb}
+use Rattle.std.proofs.lemmas.Grind.{common_steps}
+use Rattle.lists.proofs.Library.{passed}
+use Rattle.maps.specs.Expected.{is_slot, is_expected}
 use Rattle.mapped.proofs.kept.is_expected.Goals as goal
 
-or_none : (b : Bool) → b ≡ (b || false)
-or_none true = refl
-or_none false = refl
-
-pub returns-then-n-ne-SLOTS : goal.returns-then-n-ne-SLOTS
+pub returns-then-is_empty : goal.returns-then-is_empty
 unfolding is_expected
-returns-then-n-ne-SLOTS c = rw (ne_eqb _ _ c.if-n-ne-SLOTS.true) (or_none _)
+returns-then-is_empty c =
+    let e : eqb (length c.args.codes.now) 0 ≡ true = sym c.is_empty.ensures ∙ c.if-is_empty.true in
+    c.if-is_empty.true ∙ (rw e)
 
-pub loop-i-init : goal.loop-i-init
-unfolding every
-loop-i-init c = (search rules, rw (ended c.args.codes.now _ refl))
-
-pub loop-i-preserved : goal.loop-i-preserved
-unfolding every
-loop-i-preserved c =
-    let e = back c.args.codes.now c.loop-i.i 0 (omega arith) (omega arith) in
-    (omega arith, rw (e, c.loop-i.invariant.1))
-
-pub returns : goal.returns
+pub returns-then-codes-eq-SLOTS : goal.returns-then-codes-eq-SLOTS
 unfolding is_expected
-returns c =
-    let z : c.loop-i.i ≡ 0 = omega arith in
-    rw c.if-n-ne-SLOTS.false (rw z at c.loop-i.invariant.1)
+returns-then-codes-eq-SLOTS c =
+    rw c.if-codes-eq-SLOTS.true (passed is_slot c.args.codes.now c.all.result (grind (arith, common_steps)))
+
+pub returns-else-codes-eq-SLOTS : goal.returns-else-codes-eq-SLOTS
+unfolding is_expected
+returns-else-codes-eq-SLOTS c =
+    let e : eqb (length c.args.codes.now) 0 ≡ false = sym c.is_empty.ensures ∙ c.if-is_empty.false in
+    rw (e, ne_eqb _ _ c.if-codes-eq-SLOTS.false)

@@ -9,6 +9,3 @@ use Rattle.mapped.proofs.kept.none_after.Given as goal
 
 abbrev pub invariant-loop-k : goal.invariant-loop-k
 invariant-loop-k l = (l.n ≤ l.k) × (l.k ≤ 36) × (l.ok ≡ every is_none (drop l.k (maps_from l.m)))
-
-abbrev pub decreases-loop-k : goal.decreases-loop-k
-decreases-loop-k l = l.k

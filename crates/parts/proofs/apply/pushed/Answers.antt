@@ -7,6 +7,7 @@ use Rattle.image.specs.Image.{tool_from}
 use Rattle.parts.specs.Apply.{pushed}
 use Rattle.parts.proofs.InPlace.{pushed_done}
 use Rattle.parts.proofs.apply.pushed.Goals as goal
+use Rattle.parts.proofs.apply.pushed.Goals.{else-b-via-then-b+else-n-lt-COUNT_MOST, else-b-via-else-b}
 
 pub returns-then-n-lt-COUNT_MOST : goal.returns-then-n-lt-COUNT_MOST
 unfolding pushed
@@ -19,16 +20,14 @@ returns-then-n-lt-COUNT_MOST c =
     let t = c.if-n-lt-COUNT_MOST.true in
     let i = lt-ltb c.count-n.result 36 t in
     let v = c.count-n.result + 1 in
-    let f = rw c.wide.ensures at c.put_carrier.ensures.m_after in
+    let f = rw c.from.ensures at c.put_carrier.ensures.m_after in
     rw (c.if-b.true, ← e, i)
     (ap (λ l. tool_from (set l 2 v)) f ∙ pushed_done m c.put_carrier.ensures.m_len c.count-n.result x t p q v)
 
-pub returns-else-n-lt-COUNT_MOST : goal.returns-else-n-lt-COUNT_MOST
-unfolding pushed
-returns-else-n-lt-COUNT_MOST c =
-    let i = le-ltb c.count-n.result 36 c.if-n-lt-COUNT_MOST.false in
-    rw (c.if-b.true, ← c.count-n.ensures, i)
-
 pub returns-else-b : goal.returns-else-b
 unfolding pushed
-returns-else-b c = rw c.if-b.false
+returns-else-b c = elim c.else-b.branch [
+  | else-b-via-then-b+else-n-lt-COUNT_MOST w ↦
+      let i = le-ltb c.count-n.result 36 w.if-n-lt-COUNT_MOST.false in rw (w.if-b.true, ← c.count-n.ensures, i)
+  | else-b-via-else-b w ↦ rw w.if-b.false
+]

@@ -17,7 +17,7 @@ returns-then-k-lt-REPORTED_MOST c =
     let k = c.reported-k.result in
     let t = c.if-k-lt-REPORTED_MOST.true in
     let i = lt-ltb k 10 t in
-    let q = rw c.wide.ensures at c.put_report.ensures.m_after in
+    let q = rw c.from.ensures at c.put_report.ensures.m_after in
     rw (← c.reported-k.ensures, i) (ap (λ b. reports_from (set b 0 (k + 1))) q ∙ one_noted m c.put_report.ensures.m_len k t r l (k + 1))
 
 pub returns-else-k-lt-REPORTED_MOST : goal.returns-else-k-lt-REPORTED_MOST

@@ -1,3 +1,4 @@
+use Rattle.records.proofs.Names.{equal_names}
 use Rattle.parts.specs.Told.{port_touched}
 use Rattle.parts.proofs.Notes.{note_all_append}
 use Rattle.parts.proofs.report.port_reports.Goals as goal
@@ -7,12 +8,16 @@ unfolding port_touched
 returns c =
     simp note_all_append
     (rw (
-      c.note_if-4.ensures,
+      c.note_if.ensures,
+      c.none.ensures,
+      c.ne.ensures,
+      equal_names c.args.x.tie c.args.q.tie,
       c.tie_number-new.ensures,
       c.tie_number-old.ensures,
-      c.same-changed.ensures,
-      c.note_if-3.ensures,
-      c.note_if-2.ensures,
-      c.note_if.ensures,
-      c.none-z.ensures,
+      c.note_change-3.ensures,
+      c.of_port-3.ensures,
+      c.note_change-2.ensures,
+      c.of_port-2.ensures,
+      c.note_change.ensures,
+      c.of_port.ensures,
     ))

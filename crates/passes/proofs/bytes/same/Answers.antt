@@ -1,22 +1,15 @@
--- the bytes that are passed are the same
-use Rattle.std.proofs.Common.{◌≡◌, ◌+◌, refl, arith}
+use Rattle.std.proofs.Common.{◌≡◌, ◌+◌, ◌-◌, ap₂, arith}
 use Rattle.lists.specs.Lists.{same_list}
+use Rattle.lists.proofs.Library.{equal_is_same}
 use Rattle.records.specs.Names.{same_name}
-use Rattle.image.specs.Image.{table, byte_at}
-use Rattle.passes.proofs.Turns.{same_next}
+use Rattle.image.proofs.Table.{part_is}
 use Rattle.passes.proofs.bytes.same.Goals as goal
-
-pub loop-i-init : goal.loop-i-init
-unfolding same_list table
-loop-i-init c = (omega arith, refl)
-
-pub loop-i-preserved : goal.loop-i-preserved
-loop-i-preserved c =
-    let a = c.args in
-    (omega arith, rw (same_next (λ j. byte_at a.m.now (a.o + j)) (λ j. byte_at a.m.now (a.p + j)) c.loop-i.i, c.loop-i.invariant.1))
 
 pub returns : goal.returns
 unfolding same_name
 returns c =
-    let z : c.loop-i.i ≡ 16 = omega arith in
-    rw z at c.loop-i.invariant.1
+    let a = c.args in
+    let m = a.m.now in
+    let e : a.o + 16 - a.o ≡ 16 = omega arith in
+    let f : a.p + 16 - a.p ≡ 16 = omega arith in
+    rw (c.eq.ensures, equal_is_same, e, f) (ap₂ same_list (part_is m a.o 16 0 (omega arith)) (part_is m a.p 16 0 (omega arith)))

@@ -1,18 +1,14 @@
-use Rattle.std.proofs.Common.{◌≡◌, ℕ, ◌+◌, ◌-◌, ◌≤◌, Bool, false, ◌&&◌, List, length, get_or}
+use Rattle.std.proofs.Common.{◌≡◌, ℕ, ◌+◌, Bool, false, ◌&&◌, List, get_or}
 use Rattle.lists.specs.Lists.{between}
 use Rattle.image.specs.Image.{table, byte_at}
 use Rattle.passes.proofs.Gathered.{partly}
 use Rattle.passes.proofs.lanes.field_lanes.Given as goal
 
-abbrev was : List Bool → ℕ → Bool
+abbrev pub was : List Bool → ℕ → Bool
 was good j = get_or good j false
 
-abbrev next : List Bool → List ℕ → ℕ → List ℕ → List ℕ → ℕ → Bool
+abbrev pub next : List Bool → List ℕ → ℕ → List ℕ → List ℕ → ℕ → Bool
 next good m o least most j = get_or good j false && between (get_or least j 0) (byte_at m (o + j)) (get_or most j 0)
 
 abbrev pub invariant-loop-i : goal.invariant-loop-i
-invariant-loop-i l = (l.i ≤ 32) × (length l.good ≡ 32)
-    × (l.good ≡ table 32 (partly (was l.initial.good) (next l.initial.good l.m l.o l.least l.most) l.i))
-
-abbrev pub decreases-loop-i : goal.decreases-loop-i
-decreases-loop-i l = 32 - l.i
+invariant-loop-i l = l.good ≡ table 32 (partly (was l.initial.good) (next l.initial.good l.m l.o l.least l.most) l.i)

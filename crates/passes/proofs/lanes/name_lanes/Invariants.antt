@@ -1,18 +1,14 @@
-use Rattle.std.proofs.Common.{◌≡◌, ℕ, ◌+◌, ◌-◌, ◌≤◌, Bool, false, ◌&&◌, List, length, get_or}
+use Rattle.std.proofs.Common.{◌≡◌, ℕ, ◌+◌, Bool, false, ◌&&◌, List, get_or}
 use Rattle.image.specs.Image.{table, byte_at}
 use Rattle.passes.specs.Passes.{name_lane}
 use Rattle.passes.proofs.Gathered.{partly}
 use Rattle.passes.proofs.lanes.name_lanes.Given as goal
 
-abbrev was : List Bool → ℕ → Bool
+abbrev pub was : List Bool → ℕ → Bool
 was good j = get_or good j false
 
-abbrev next : List Bool → List ℕ → ℕ → List ℕ → List ℕ → ℕ → Bool
+abbrev pub next : List Bool → List ℕ → ℕ → List ℕ → List ℕ → ℕ → Bool
 next good m o first last j = get_or good j false && name_lane (get_or first j 0) (get_or last j 0) (byte_at m (o + j)) (byte_at m (o + j + 1))
 
 abbrev pub invariant-loop-i : goal.invariant-loop-i
-invariant-loop-i l = (l.i ≤ 16) × (length l.good ≡ 16)
-    × (l.good ≡ table 16 (partly (was l.initial.good) (next l.initial.good l.m l.o l.first l.last) l.i))
-
-abbrev pub decreases-loop-i : goal.decreases-loop-i
-decreases-loop-i l = 16 - l.i
+invariant-loop-i l = l.good ≡ table 16 (partly (was l.initial.good) (next l.initial.good l.m l.o l.first l.last) l.i)

@@ -1,21 +1,19 @@
 -- lane i of the record at position k
 use Rattle.std.proofs.Common.{rules}
-use Rattle.std.proofs.Common.{◌≡◌, ℕ, ◌+◌, Bool, List, length, get_or, ap, ◌∙◌, arith, rules}
+use Rattle.std.proofs.Common.{◌≡◌, ◌+◌, length, ap, ◌∙◌, arith, rules}
 use Rattle.lists.specs.Lists.{every}
-use Rattle.image.specs.Image.{byte_at, carrier_start}
+use Rattle.image.specs.Image.{carrier_start}
 use Rattle.image.proofs.Table.{length_table}
-use Rattle.passes.specs.Passes.{record_on, itself, name_lane, named_by}
+use Rattle.passes.specs.Passes.{record_on, itself, named_by}
 use Rattle.passes.proofs.Gathered.{lanes, lanes_none, lanes_more, lanes_all}
 use Rattle.passes.proofs.Bounds.{firsts, lasts, name_tests}
+use Rattle.passes.proofs.lanes.named.Invariants.{lane}
 use Rattle.passes.proofs.lanes.named.Goals as goal
-
-abbrev lane : List ℕ → List ℕ → List ℕ → ℕ → ℕ → Bool
-lane m first last i k = name_lane (get_or first i 0) (get_or last i 0) (byte_at m (carrier_start k + i)) (byte_at m (carrier_start k + i + 1))
 
 pub loop-k-init : goal.loop-k-init
 loop-k-init c =
     let e = lanes_none (lane c.args.m.now firsts lasts) 16 in
-    (omega arith, omega arith, ap length e ∙ length_table 16 _, e)
+    (ap length e ∙ length_table 16 _, e)
 
 pub name_lanes-requires : goal.name_lanes-requires
 name_lanes-requires c = record { good_len = search rules; o_bound = omega arith }
@@ -24,13 +22,13 @@ pub loop-k-preserved : goal.loop-k-preserved
 loop-k-preserved c =
     let P = lane c.args.m.now firsts lasts in
     let e : c.name_lanes.new.good ≡ lanes P 16 (c.loop-k.k + 1) = c.name_lanes.ensures
-    ∙ rw c.loop-k.invariant.3 (lanes_more P 16 c.loop-k.k) in
-    (omega arith, omega arith, ap length e ∙ length_table 16 _, e)
+    ∙ rw c.loop-k.invariant.1 (lanes_more P 16 c.loop-k.k) in
+    (ap length e ∙ length_table 16 _, e)
 
 pub returns : goal.returns
 returns c =
     let a = c.args in
     let m = a.m.now in
     let z : c.loop-k.k ≡ a.n = omega arith in
-    c.all.ensures ∙ ap (every itself) (rw z at c.loop-k.invariant.3)
+    c.all.ensures ∙ ap (every itself) (rw z at c.loop-k.invariant.1)
     ∙ lanes_all (lane m firsts lasts) 16 a.n named_by (record_on m) (λ k h. name_tests m (carrier_start k))

@@ -1,15 +1,12 @@
 -- lane i of the record at position k
-use Rattle.std.proofs.Common.{◌≡◌, ℕ, ◌+◌, ◌-◌, ◌≤◌, Bool, List, length, get_or}
+use Rattle.std.proofs.Common.{◌≡◌, ℕ, ◌+◌, Bool, List, length, get_or}
 use Rattle.image.specs.Image.{byte_at, carrier_start}
 use Rattle.passes.specs.Passes.{name_lane}
 use Rattle.passes.proofs.Gathered.{lanes}
 use Rattle.passes.proofs.lanes.named.Given as goal
 
-abbrev lane : List ℕ → List ℕ → List ℕ → ℕ → ℕ → Bool
+abbrev pub lane : List ℕ → List ℕ → List ℕ → ℕ → ℕ → Bool
 lane m first last i k = name_lane (get_or first i 0) (get_or last i 0) (byte_at m (carrier_start k + i)) (byte_at m (carrier_start k + i + 1))
 
 abbrev pub invariant-loop-k : goal.invariant-loop-k
-invariant-loop-k l = (l.k ≤ l.n) × (l.n ≤ 36) × (length l.good ≡ 16) × (l.good ≡ lanes (lane l.m l.first l.last) 16 l.k)
-
-abbrev pub decreases-loop-k : goal.decreases-loop-k
-decreases-loop-k l = l.n - l.k
+invariant-loop-k l = (length l.good ≡ 16) × (l.good ≡ lanes (lane l.m l.first l.last) 16 l.k)

@@ -1,115 +1,42 @@
 -- those that are passed have another name
-use Rattle.std.proofs.Common.{◌<◌, not, ◌&&◌, ltb, sym, refl, ap, ◌∙◌, arith, ltb-true}
-use Rattle.lists.specs.Lists.{every}
-use Rattle.lists.proofs.Bools.{and_r}
+use Rattle.std.proofs.Common.{◌≡◌, ◌+◌, not, sym, ap, ◌∙◌, arith}
+use Rattle.lists.proofs.Bools.{and_i}
 use Rattle.rules.specs.Sound.{other_name}
-use Rattle.image.specs.Image.{table, carrier_start}
-use Rattle.passes.specs.Passes.{record_on}
-use Rattle.passes.proofs.Turns.{every_next, stopped}
-use Rattle.passes.proofs.Marks.{by_words}
+use Rattle.image.specs.Image.{carrier_start}
+use Rattle.passes.specs.Passes.{record_on, word}
+use Rattle.passes.proofs.Turns.{every_none, every_next, failed}
+use Rattle.passes.proofs.Marks.{names_apart, names_alike}
 use Rattle.passes.proofs.names.alone.Goals as goal
+use Rattle.passes.proofs.names.alone.Goals.{else-word-a-via-then-word-a+else-word-b, else-word-a-via-else-word-a}
 
-pub loop-ok-init : goal.loop-ok-init
-unfolding every table
-loop-ok-init c = (omega arith, omega arith, omega arith, refl)
+pub loop-j-init : goal.loop-j-init
+loop-j-init c = sym (every_none (λ x. other_name x (record_on c.args.m.now c.args.k)) (record_on c.args.m.now))
 
-pub overflow_mul-j : goal.overflow_mul-j
-overflow_mul-j c = omega (
-  arith,
-  (let h : c.loop-ok.j < c.args.n = let j = c.loop-ok.j in
-      let n = c.args.n in
-      ltb-true j n (and_r c.loop-ok.ok (ltb j n) c.loop-ok-test.true) in h),
-)
-
-pub overflow_add-j : goal.overflow_add-j
-overflow_add-j c = omega (
-  arith,
-  (let h : c.loop-ok.j < c.args.n = let j = c.loop-ok.j in
-      let n = c.args.n in
-      ltb-true j n (and_r c.loop-ok.ok (ltb j n) c.loop-ok-test.true) in h),
-)
-
-pub word-requires : goal.word-requires
-word-requires c = omega (
-  arith,
-  (let h : c.loop-ok.j < c.args.n = let j = c.loop-ok.j in
-      let n = c.args.n in
-      ltb-true j n (and_r c.loop-ok.ok (ltb j n) c.loop-ok-test.true) in h),
-)
-
-pub overflow_mul-j-in-loop-ok : goal.overflow_mul-j-in-loop-ok
-overflow_mul-j-in-loop-ok c = omega (
-  arith,
-  (let h : c.loop-ok.j < c.args.n = let j = c.loop-ok.j in
-      let n = c.args.n in
-      ltb-true j n (and_r c.loop-ok.ok (ltb j n) c.loop-ok-test.true) in h),
-)
-
-pub overflow_add-j-in-loop-ok : goal.overflow_add-j-in-loop-ok
-overflow_add-j-in-loop-ok c = omega (
-  arith,
-  (let h : c.loop-ok.j < c.args.n = let j = c.loop-ok.j in
-      let n = c.args.n in
-      ltb-true j n (and_r c.loop-ok.ok (ltb j n) c.loop-ok-test.true) in h),
-)
-
-pub overflow_add-j-in-loop-ok-2 : goal.overflow_add-j-in-loop-ok-2
-overflow_add-j-in-loop-ok-2 c = omega (
-  arith,
-  (let h : c.loop-ok.j < c.args.n = let j = c.loop-ok.j in
-      let n = c.args.n in
-      ltb-true j n (and_r c.loop-ok.ok (ltb j n) c.loop-ok-test.true) in h),
-)
-
-pub word-requires-in-loop-ok : goal.word-requires-in-loop-ok
-word-requires-in-loop-ok c = omega (
-  arith,
-  (let h : c.loop-ok.j < c.args.n = let j = c.loop-ok.j in
-      let n = c.args.n in
-      ltb-true j n (and_r c.loop-ok.ok (ltb j n) c.loop-ok-test.true) in h),
-)
-
-pub overflow_add-j-in-loop-ok-3 : goal.overflow_add-j-in-loop-ok-3
-overflow_add-j-in-loop-ok-3 c = omega (
-  arith,
-  (let h : c.loop-ok.j < c.args.n = let j = c.loop-ok.j in
-      let n = c.args.n in
-      ltb-true j n (and_r c.loop-ok.ok (ltb j n) c.loop-ok-test.true) in h),
-)
-
-pub loop-ok-smaller : goal.loop-ok-smaller
-loop-ok-smaller c = omega (
-  arith,
-  (let h : c.loop-ok.j < c.args.n = let j = c.loop-ok.j in
-      let n = c.args.n in
-      ltb-true j n (and_r c.loop-ok.ok (ltb j n) c.loop-ok-test.true) in h),
-)
-
-pub loop-ok-preserved : goal.loop-ok-preserved
+pub returns-then-word-b : goal.returns-then-word-b
 unfolding other_name
-loop-ok-preserved c =
+returns-then-word-b c =
     let m = c.args.m.now in
     let k = c.args.k in
-    let j = c.loop-ok.j in
-    let w = (let h : c.loop-ok.j < c.args.n = let j = c.loop-ok.j in
-    let n = c.args.n in
-    ltb-true j n (and_r c.loop-ok.ok (ltb j n) c.loop-ok-test.true) in h) in
-    let low = c.word-a.ensures in
-    let high = c.word-b.ensures in
-    let near = c.word.ensures in
-    let far = c.word-in-loop-ok.ensures in (
-      omega arith,
-      omega arith,
-      omega arith,
-      rw (far.value, near.value, high.value, low.value, c.loop-ok.invariant.3)
-          (ap (λ t. not t && every (λ c. other_name c (record_on m k)) (table j (record_on m)))
-          (by_words m (carrier_start j) (carrier_start k) near.by_index far.by_index low.by_index high.by_index)
-          ∙ sym (every_next (λ c. other_name c (record_on m k)) (record_on m) j)),
-    )
+    let j = c.loop-j.j in
+    let low : word m (carrier_start j) ≡ word m (carrier_start k) = cc in
+    let high : word m (carrier_start j + 8) ≡ word m (carrier_start k + 8) = cc in
+    failed (λ x. other_name x (record_on m k)) (record_on m) c.args.n j c.loop-j-test.true
+    (ap not (names_alike m (carrier_start j) (carrier_start k) c.word.ensures.by_index c.word-then-word-a.ensures.by_index
+    c.word-a.ensures.by_index c.word-b.ensures.by_index low high))
+
+pub loop-j-preserved : goal.loop-j-preserved
+unfolding other_name
+loop-j-preserved c =
+    let m = c.args.m.now in
+    let k = c.args.k in
+    let j = c.loop-j.j in
+    every_next (λ x. other_name x (record_on m k)) (record_on m) j
+    ∙ and_i (names_apart m (carrier_start j) (carrier_start k) (λ low high. elim c.else-word-a.branch [
+      | else-word-a-via-then-word-a+else-word-b w ↦ w.if-word-b.false (w.word-then-word-a.ensures.value ∙ high ∙ sym c.word-b.ensures.value)
+      | else-word-a-via-else-word-a w ↦ w.if-word-a.false (c.word.ensures.value ∙ low ∙ sym c.word-a.ensures.value)
+    ])) c.loop-j.invariant
 
 pub returns : goal.returns
 returns c =
-    let a = c.args in
-    let m = a.m.now in
-    stopped (λ c. other_name c (record_on m a.k)) (record_on m) c.loop-ok.ok c.loop-ok.j a.n (omega arith) c.loop-ok.invariant.3
-    c.loop-ok-test.false
+    let z : c.loop-j.j ≡ c.args.n = omega arith in
+    sym (rw z at c.loop-j.invariant)

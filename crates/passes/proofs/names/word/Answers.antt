@@ -1,9 +1,8 @@
-use Rattle.passes.proofs.Marks.{halves, small_halves}
+use Rattle.std.proofs.Common.{◌+◌, ◌∙◌}
+use Rattle.image.specs.Image.{byte_at}
+use Rattle.passes.proofs.Marks.{word_read}
 use Rattle.passes.proofs.names.word.Goals as goal
 
-pub returns : goal.returns
-returns c =
-    let low = c.half.ensures in
-    let high = c.half-2.ensures in
-    let a = c.args in
-    record { value = rw (high.value, low.value) (halves a.m.now a.o); by_index = small_halves a.m.now a.o low.by_index high.by_index }
+pub returns-clause-value : goal.returns-clause-value
+returns-clause-value c =
+    rw c.bytes_from.ensures at c.from_le_bytes.ensures ∙ word_read (λ i. byte_at c.args.m.now (c.args.o + i))

@@ -86,7 +86,7 @@ none_told f r ps e = rw e
 pub loop-k-init : goal.loop-k-init
 unfolding first_of
 loop-k-init c =
-    (c.wide-n.ensures ∙ c.count.ensures, omega arith, c.requires.held, refl, c.requires.none_after, refl, kept_all _ _ _)
+    (c.from-n.ensures ∙ c.count.ensures, omega arith, c.requires.held, refl, c.requires.none_after, refl, kept_all _ _ _)
 
 pub along_at-requires : goal.along_at-requires
 along_at-requires c =

@@ -1,6 +1,6 @@
 -- The first k have moved along; what is still to be told gives the same.
 -- what each asks, and where all of them are in the end
-use Prim.Native.Nat.{ℕ, ◌-◌, ◌≤◌}
+use Prim.Native.Nat.{ℕ, ◌≤◌}
 use mathlib.Core.Path.{◌≡◌}
 use mathlib.Core.Bool.{Bool}
 use mathlib.Core.List.{List, []}
@@ -35,6 +35,3 @@ invariant-loop-k l =
     × (note_all (reports_from l.o) (all_told (asks l.initial.m l.timed l.t) (drop l.k (base_in l.initial.m).carriers) (drop l.k (used_in l.initial.m)))
     ≡ note_all (reports_from l.initial.o) (all_told (asks l.initial.m l.timed l.t) (base_in l.initial.m).carriers (used_in l.initial.m)))
     × KeptOutside 1201 1597 (own_in l.initial.m) (own_in l.m)
-
-abbrev pub decreases-loop-k : goal.decreases-loop-k
-decreases-loop-k l = l.n - l.k

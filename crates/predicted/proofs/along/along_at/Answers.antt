@@ -22,8 +22,8 @@ pub put_prediction-requires : goal.put_prediction-requires
 put_prediction-requires c =
     c.requires.k_bound
 
-pub returns-then-state : goal.returns-then-state
-returns-then-state c =
+pub returns-then-contains : goal.returns-then-contains
+returns-then-contains c =
     let here : c.record_at-c.result ≡ record_of (base_in c.args.m.now) c.args.k =
     c.record_at-c.ensures ∙ record_held (tool_from (get_or c.args.m.now 0 [])) c.requires.held c.args.k in
     let its : c.all_facts-f.result ≡ facts_in c.args.timed c.args.t (base_in c.args.m.now) (record_of (base_in c.args.m.now) c.args.k) (get_or (predictions_from (own_in c.args.m.now)) c.args.k no_prediction) =
@@ -41,8 +41,9 @@ returns-then-state c =
       kept_outside = kept_then m w long c.put_prediction.ensures.kept_outside;
     }
 
-pub returns-else-state : goal.returns-else-state
-returns-else-state c =
+pub returns-else-contains : goal.returns-else-contains
+returns-else-contains c =
     let m = c.args.m.now in
     let ps = predictions_from (own_in m) in
-    let off = ap on_the_way (sym c.state_at-state.ensures) ∙ c.if-state.false in record { m_unchanged = refl; m_after = stays_there c.args.timed c.args.t (base_in m) (record_of (base_in m) c.args.k) ps c.args.k off; o_after = nothing_told c.args.timed c.args.t (base_in m) (record_of (base_in m) c.args.k) ps c.args.k off _ _; kept_outside = kept_all 1201 1597 (own_in m) }
+    let on : c.contains.result ≡ on_the_way c.state_at-state.result = search rules in
+    let off = ap on_the_way (sym c.state_at-state.ensures) ∙ sym on ∙ c.if-contains.false in record { m_unchanged = refl; m_after = stays_there c.args.timed c.args.t (base_in m) (record_of (base_in m) c.args.k) ps c.args.k off; o_after = nothing_told c.args.timed c.args.t (base_in m) (record_of (base_in m) c.args.k) ps c.args.k off _ _; kept_outside = kept_all 1201 1597 (own_in m) }

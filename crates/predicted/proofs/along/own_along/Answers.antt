@@ -26,18 +26,18 @@ is_ready-ready-requires c = c.requires.held
 
 pub put_prediction-requires : goal.put_prediction-requires
 put_prediction-requires c =
-    let e = c.wide.ensures ∙ c.count.ensures in
-    let l = c.if-k-wide.true in
+    let e = c.from.ensures ∙ c.count.ensures in
+    let l = c.if-k-from.true in
     let f = c.requires.held.few_carriers in
     omega arith
 
-pub returns-then-k-wide : goal.returns-then-k-wide
-returns-then-k-wide c =
+pub returns-then-k-from : goal.returns-then-k-from
+returns-then-k-from c =
     let here : c.record_at-c.result ≡ record_of (base_in c.args.m.now) c.args.k =
     c.record_at-c.ensures ∙ record_held (tool_from (get_or c.args.m.now 0 [])) c.requires.held c.args.k in
     let within : c.args.k < (tool_from (get_or c.args.m.now 0 [])).count =
-    let e = c.wide.ensures ∙ c.count.ensures in
-    let l = c.if-k-wide.true in
+    let e = c.from.ensures ∙ c.count.ensures in
+    let l = c.if-k-from.true in
     omega arith in
     let was : c.prediction_at-p.result ≡ get_or (used_in c.args.m.now) c.args.k no_prediction =
     c.prediction_at-p.ensures ∙ used_at c.args.m.now c.args.k within in
@@ -64,11 +64,11 @@ returns-then-k-wide c =
       kept_outside = kept_then m w long c.put_prediction.ensures.kept_outside;
     }
 
-pub returns-else-k-wide : goal.returns-else-k-wide
-returns-else-k-wide c =
+pub returns-else-k-from : goal.returns-else-k-from
+returns-else-k-from c =
     let a = c.args in
     let m = a.m.now in
-    let e = c.wide.ensures ∙ c.count.ensures in
+    let e = c.from.ensures ∙ c.count.ensures in
     let l = used_long m c.requires.held in
-    let n = c.if-k-wide.false in
+    let n = c.if-k-from.false in
     let past : length (used_in m) ≤ a.k = omega arith in record { m_unchanged = refl; m_after = c.requires.none_after ∙ ap (fill 36 no_prediction) (sym (past_stays a.number a.t a.time (base_in m) (used_in m) a.k past _)); o_after = past_told a.number a.t a.time (base_in m) (used_in m) a.k past _ _; kept_outside = kept_all 1201 1597 (own_in m) }

@@ -1,6 +1,5 @@
 use mathlib.Core.Path.{ap, sym, ◌∙◌}
 use Rattle.rules.specs.declared.row.Seen.{Seen}
-use Rattle.machine.proofs.Answered.{see_number}
 use Rattle.predicted.proofs.others.spot.Goals as goal
 
 pub look-x-requires : goal.look-x-requires
@@ -8,10 +7,9 @@ look-x-requires c = c.requires
 
 pub returns-then-says_of : goal.returns-then-says_of
 returns-then-says_of c =
-    let a = c.args in
     rw (sym c.says_of.ensures ∙ c.if-says_of.true)
-    (ap (λ (x : Seen). x.stands) (see_number _ a.number a.port a.value a.name.now a.codes.now _ c.look-x.ensures))
+    (ap (λ (x : Seen). x.stands) c.look-x.ensures)
 
 pub returns-else-says_of : goal.returns-else-says_of
 returns-else-says_of c =
-    rw (sym c.says_of.ensures ∙ c.if-says_of.false) (c.wide.ensures ∙ c.count.ensures)
+    rw (sym c.says_of.ensures ∙ c.if-says_of.false) (c.from.ensures ∙ c.count.ensures)

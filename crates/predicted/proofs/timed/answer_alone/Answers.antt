@@ -3,8 +3,7 @@ use mathlib.Core.Path.{◌≡◌, refl, ◌∙◌}
 use mathlib.Core.Bool.{true}
 use lib.Dec.{ltb}
 use borrow.Author.Tests.{lt-ltb}
-use Rattle.rules.specs.Seen.{input_of}
-use Rattle.machine.proofs.Answered.{see_number}
+use Rattle.rules.specs.Seen.{input_in}
 use Rattle.prediction.specs.State.{timed}
 use Rattle.predicted.proofs.Held.{held}
 use Rattle.predicted.proofs.Asked.{seen_answers}
@@ -17,8 +16,5 @@ pub returns : goal.returns
 returns c =
     let clock_fits : ltb c.args.clock 4294967296 ≡ true =
     lt-ltb c.args.clock 4294967296 (omega arith) in
-    let a = c.args in
-    let i = timed (input_of a.number a.port a.value a.name.now a.codes.now) a.clock 0 in
     c.seen_answer.ensures
-    ∙ seen_answers a.m.now c.requires.m_value i c.look-x.result
-    (see_number _ a.number a.port a.value a.name.now a.codes.now _ c.look-x.ensures) c.requires.number_value clock_fits refl
+    ∙ seen_answers c.args.m.now c.requires.m_value (timed (input_in c.args.i) c.args.clock 0) c.look-x.result c.look-x.ensures c.requires.number_value clock_fits refl

@@ -3,7 +3,7 @@ use Prim.Native.Nat.{◌<◌}
 use mathlib.Core.Path.{◌≡◌, refl}
 use mathlib.Core.List.{[]}
 use lib.ListN.{length}
-use Rattle.rules.specs.Seen.{Input, input_of}
+use Rattle.rules.specs.Seen.{Input, numbered}
 use Rattle.rules.specs.Row.{lowest}
 use Rattle.mapped.specs.Bytes.{own_in}
 use Rattle.queue.specs.Requests.{all_dropped}
@@ -23,7 +23,7 @@ pub returns : goal.returns
 unfolding lowest row_of
 returns c =
     let input : Input =
-    input_of 30 c.args.port c.args.value c.args.name.now c.args.codes.now in
+    numbered 30 c.args.i in
     let row : row_in (state_of (queued_in c.args.m.now)) input ≡ cancel_all_carrier_out (queue_of (own_in c.args.m.now)) =
     refl in
     let m = c.args.m.now in

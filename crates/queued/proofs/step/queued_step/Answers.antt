@@ -1,7 +1,7 @@
 use Rattle.std.proofs.Common.{rules}
 use native.Mathlib.Omega.{arith}
-use mathlib.Core.Path.{refl, ◌∙◌}
-use Rattle.rules.specs.Seen.{Input, input_of}
+use mathlib.Core.Path.{◌∙◌}
+use Rattle.rules.specs.Seen.{Input, input_in}
 use Rattle.mapped.specs.Bytes.{own_in}
 use Rattle.queue.proofs.Walk.{Plain}
 use Rattle.queue.proofs.Passed.{plain_given}
@@ -11,12 +11,6 @@ use Rattle.queued.specs.Bytes.{queued_in}
 use Rattle.queued.proofs.Held.{mapped_sound}
 use Rattle.queued.proofs.step.queued_step.Goals as goal
 
-pub at_port-requires : goal.at_port-requires
-at_port-requires c = record { m_value = search rules; number_value = refl }
-
-pub at_port-requires-in-13 : goal.at_port-requires-in-13
-at_port-requires-in-13 c = record { m_value = search rules; number_value = refl }
-
 pub passed_on-requires : goal.passed_on-requires
 passed_on-requires c = mapped_sound c.args.m.now c.requires
 
@@ -25,12 +19,6 @@ returns-in-6 c = record { result_after = rw c.in-6.is c.cancel_carrier.ensures.r
 
 pub returns-in-7 : goal.returns-in-7
 returns-in-7 c = record { result_after = rw c.in-7.is c.carrier_out.ensures.result_after; kept_outside = c.carrier_out.ensures.kept_outside }
-
-pub returns-in-12 : goal.returns-in-12
-returns-in-12 c = record { result_after = rw c.in-12.is c.at_port.ensures.result_after; kept_outside = c.at_port.ensures.kept_outside }
-
-pub returns-in-13 : goal.returns-in-13
-returns-in-13 c = record { result_after = rw c.in-13.is c.at_port-in-13.ensures.result_after; kept_outside = c.at_port-in-13.ensures.kept_outside }
 
 pub returns-in-19 : goal.returns-in-19
 returns-in-19 c = record { result_after = rw c.in-19.is c.open_row.ensures.result_after; kept_outside = c.open_row.ensures.kept_outside }
@@ -50,9 +38,9 @@ returns-in-30 c = record { result_after = rw c.in-30.is c.cancel_all_carrier_out
 pub returns-in_default : goal.returns-in_default
 returns-in_default c =
     let input : Input =
-    input_of c.args.number c.args.port c.args.value c.args.name.now c.args.codes.now in
+    input_in c.args.i in
     let m = c.args.m.now in
-    let plain : Plain c.args.number = record {
+    let plain : Plain c.args.i.number = record {
       not_six = (search rules);
       not_seven = (search rules);
       not_twelve = (search rules);

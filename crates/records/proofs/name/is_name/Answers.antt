@@ -1,33 +1,22 @@
--- From the end: the bytes that are passed are graphic.
-use Rattle.std.proofs.Common.{rules}
-use borrow.Author.Tests.{lt-leb, le-leb}
+-- Sixteen bytes at most, and each of them passes.
+use Rattle.lists.proofs.Library.{passed}
+use Rattle.std.proofs.lemmas.Grind.{common_steps}
 use native.Mathlib.Omega.{arith}
-use mathlib.Core.Path.{◌≡◌, refl}
-use Rattle.lists.specs.Lists.{every}
-use Rattle.lists.proofs.Loops.{back, ended}
-use Rattle.records.specs.Names.{is_name}
+use lib.ListN.{length}
+use borrow.Author.Tests.{le-leb, lt-leb}
+use Rattle.records.specs.Names.{graphic, is_name}
 use Rattle.records.proofs.name.is_name.Goals as goal
 
-pub returns-then-n-lt1 : goal.returns-then-n-lt1
+pub returns-in-1-to-16 : goal.returns-in-1-to-16
 unfolding is_name
-returns-then-n-lt1 c = rw (lt-leb _ _ c.if-n-lt1.true)
+returns-in-1-to-16 c =
+    let t = c.args.text.now in
+    rw (le-leb 1 (length t) (omega arith), le-leb (length t) 16 (omega arith)) (passed graphic t c.all.result (grind (arith, common_steps)))
 
-pub returns-then-n-gt-NAME_BYTES : goal.returns-then-n-gt-NAME_BYTES
+pub returns-in_default : goal.returns-in_default
 unfolding is_name
-returns-then-n-gt-NAME_BYTES c = rw (le-leb _ _ c.if-n-lt1.false, lt-leb _ _ c.if-n-gt-NAME_BYTES.true)
+returns-in_default c = rw (lt-leb 1 (length c.args.text.now) (omega arith))
 
-pub loop-i-init : goal.loop-i-init
-unfolding every
-loop-i-init c = (search rules, rw (ended c.args.text.now _ refl))
-
-pub loop-i-preserved : goal.loop-i-preserved
-unfolding every
-loop-i-preserved c =
-    let e = back c.args.text.now c.loop-i.i 0 (omega arith) (omega arith) in
-    (omega arith, rw (e, c.loop-i.invariant.1))
-
-pub returns : goal.returns
+pub returns-in_default-2 : goal.returns-in_default-2
 unfolding is_name
-returns c =
-    let z : c.loop-i.i ≡ 0 = omega arith in
-    rw (le-leb _ _ c.if-n-lt1.false, le-leb _ _ c.if-n-gt-NAME_BYTES.false) (rw z at c.loop-i.invariant.1)
+returns-in_default-2 c = let t = c.args.text.now in rw (le-leb 1 (length t) (omega arith), lt-leb (length t) 16 (omega arith))

@@ -8,5 +8,5 @@ returns-then-room-n c =
 pub returns : goal.returns
 returns c =
     rw (c.put-2.ensures, c.put.ensures)
-    (refused_writes c.args.room.now c.args.number c.args.words.now c.requires c.head_of-head.result
-    c.head_of-head.ensures c.if-room-n.false)
+    (refused_writes c.args.room.now c.args.number c.args.words.now c.requires c.head_of.result
+    c.head_of.ensures c.if-room-n.false)

@@ -2,7 +2,7 @@
 use native.Mathlib.Omega.{arith}
 use native.Mathlib.Numerals.{add-one}
 use Prim.Native.Nat.{ℕ, suc, ◌+◌, ◌-◌, ◌≤◌, ◌<◌}
-use mathlib.Core.Path.{◌≡◌, refl, sym, ap, ◌∙◌}
+use mathlib.Core.Path.{◌≡◌, sym, ap, ◌∙◌}
 use mathlib.Core.List.{List, [], ◌++◌, append_assoc, append-nil}
 use lib.ListN.{length, get_or, take, set, length-set}
 use lib.Seq.{take-suc-set, take_all}
@@ -24,20 +24,17 @@ whole m codes all i at e l inv =
     let k : length codes ≤ 25 = omega arith in
     sym (append-nil codes) ∙ ap (λ r. r ++ []) (sym (take_all 25 codes k)) ∙ rw e at inv
 
-pub loop-i-init : goal.loop-i-init
-loop-i-init c = (omega arith, refl, refl)
-
-pub loop-i-preserved : goal.loop-i-preserved
-loop-i-preserved c =
+pub loop-code-preserved : goal.loop-code-preserved
+loop-code-preserved c =
     let h = c.head_at-h in
-    let a = c.args in (
-      omega arith,
-      simp length-set c.loop-i.invariant.1,
-      turn a.msg.now c.loop-i.codes _ c.loop-i.i c.loop-i.at c.byte.result h.result (omega arith) (omega arith)
-          h.ensures.value c.byte.ensures.value c.loop-i.invariant.2,
-    )
+    let l = c.loop-code in
+    record {
+      whole = simp length-set l.invariant.whole;
+      parts = turn c.args.msg.now l.code-items _ l.code-index l.at c.byte.result h.result (omega arith) (omega arith) h.ensures.value c.byte.ensures
+          l.invariant.parts;
+    }
 
 pub returns : goal.returns
 returns c =
-    let l = c.loop-i in
-    whole c.args.msg.now l.codes _ l.i l.at (omega arith) l.invariant.1 l.invariant.2
+    let l = c.loop-code in
+    whole c.args.msg.now l.code-items _ l.code-index l.at (omega arith) l.invariant.whole l.invariant.parts

@@ -23,9 +23,9 @@ loop-k-init c =
     let q : (tool_from m).count ≤ 36 = c.requires in
     let e = c.count.ensures in (
       q,
-      omega (arith, c.wide-n.ensures),
-      omega (arith, c.wide-n.ensures),
-      rw (c.wide-n.ensures, e, ended_in (tool_from m).carriers (tool_from m).count (omega arith), add-zero),
+      omega (arith, c.from-n.ensures),
+      omega (arith, c.from-n.ensures),
+      rw (c.from-n.ensures, e, ended_in (tool_from m).carriers (tool_from m).count (omega arith), add-zero),
     )
 
 pub loop-k-preserved : goal.loop-k-preserved
@@ -52,4 +52,4 @@ returns c =
     let a = c.args in
     let z : c.loop-k.k ≡ 0 = omega arith in
     let q : c.loop-k.p ≡ passed (state_of (tool_from a.m.now)) a.name a.port a.value = c.loop-k.invariant.3 ∙ rw z (simp zero-add) in
-    rw (c.record_at-held.ensures, c.record_at-found.ensures, q)
+    rw (c.record_at-2.ensures, c.record_at.ensures, q)

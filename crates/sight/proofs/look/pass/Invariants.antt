@@ -10,6 +10,3 @@ abbrev pub invariant-loop-k : goal.invariant-loop-k
 invariant-loop-k l =
     ((tool_from l.m).count ≤ 36) × (l.k ≤ (tool_from l.m).count) × (l.p.expected + l.k ≤ 36)
     × (l.p ≡ passed_in l.name l.port l.value l.k (drop l.k (take (tool_from l.m).count (tool_from l.m).carriers)))
-
-abbrev pub decreases-loop-k : goal.decreases-loop-k
-decreases-loop-k l = l.k

@@ -1,5 +1,5 @@
 -- the records that are passed fit and share nothing, and each has left its position at its spot and at its port
-use Prim.Native.Nat.{◌≤◌, ◌-◌}
+use Prim.Native.Nat.{◌≤◌}
 use mathlib.Core.Path.{◌≡◌}
 use Rattle.lists.specs.Lists.{every, every_two, how_many}
 use Rattle.records.specs.Carriers.{expected}
@@ -12,11 +12,8 @@ use Rattle.soundness.proofs.seats.seats.Given as goal
 
 abbrev pub invariant-loop-k : goal.invariant-loop-k
 invariant-loop-k l =
-    (l.k ≤ l.n) × (l.n ≤ 36) × (l.spots ≡ marked (spot_key l.m) 256 l.k) × (l.ports ≡ marked (port_key l.m) 256 l.k)
+    (l.spots ≡ marked (spot_key l.m) 256 l.k) × (l.ports ≡ marked (port_key l.m) 256 l.k)
     × (l.fit ≡ every (seat_fits l.used l.places) (table l.k (record_on l.m)))
     × (l.apart ≡ every_two other_spot (table l.k (record_on l.m)))
     × (l.alone ≡ every_two other_port (table l.k (record_on l.m)))
     × (l.expected ≤ l.k) × (l.expected ≡ how_many expected (table l.k (record_on l.m)))
-
-abbrev pub decreases-loop-k : goal.decreases-loop-k
-decreases-loop-k l = l.n - l.k

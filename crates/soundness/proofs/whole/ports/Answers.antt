@@ -9,13 +9,12 @@ use Rattle.soundness.proofs.whole.ports.Goals as goal
 
 pub loop-k-init : goal.loop-k-init
 unfolding every table
-loop-k-init c = (omega arith, refl)
+loop-k-init c = refl
 
 pub loop-k-preserved : goal.loop-k-preserved
-loop-k-preserved c =
-    (omega arith, rw (every_next port_fits (port_on c.args.m.now) c.loop-k.k, c.port-ok.ensures, c.loop-k.invariant.1))
+loop-k-preserved c = rw (every_next port_fits (port_on c.args.m.now) c.loop-k.k, c.port-ok.ensures, c.loop-k.invariant)
 
 pub returns : goal.returns
 returns c =
     let z : c.loop-k.k ≡ c.args.n = omega arith in
-    rw z at c.loop-k.invariant.1
+    rw z at c.loop-k.invariant

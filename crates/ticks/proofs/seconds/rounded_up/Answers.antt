@@ -26,13 +26,6 @@ truncating_f64_to_u64-n-requires c =
     let r = in_range_fact c.args.t c.requires.counts c.requires.t_bound in
     record { lower_bound = r.0; upper_bound = r.1 }
 
-pub overflow_add-s : goal.overflow_add-s
-unfolding of_bits
-overflow_add-s c =
-    let e : c.truncating_f64_to_u64-n.result ≡ ticks c.args.t = c.truncating_f64_to_u64-n.ensures ∙ cut c.args.t c.requires.counts c.requires.t_bound in
-    let l = c.requires.t_bound in
-    omega arith
-
 -- fifty-two million seconds have room in 32 bits
 pub overflow_cast-result : goal.overflow_cast-result
 unfolding of_bits
@@ -45,4 +38,4 @@ pub returns : goal.returns
 unfolding rounded_up of_bits
 returns c =
     let e : c.truncating_f64_to_u64-n.result ≡ ticks c.args.t = c.truncating_f64_to_u64-n.ensures ∙ cut c.args.t c.requires.counts c.requires.t_bound in
-    rw e
+    omega arith

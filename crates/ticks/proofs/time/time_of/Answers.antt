@@ -1,11 +1,12 @@
 -- A float that comes back from the way over 1024 is n / 1024; and what is n / 1024 passes every test on the way.
-use Rattle.std.proofs.Common.{◌≡◌, ℕ, ◌*◌, ◌^◌, ◌<◌, ◌≤◌, true, false, T, pos, sym, ◌∙◌, subst, arith, le→leb}
-use lib.Ieee.{Float, fin, binary64, of_bits, neg, in_float, of_int, mul, div}
+use Rattle.std.proofs.Common.{◌≡◌, ℕ, ◌*◌, ◌^◌, ◌<◌, true, false, T, pos, sym, ◌∙◌, subst, arith}
+use lib.Ieee.{Float, fin, binary64, of_bits, neg, of_int, mul, div}
 use Rattle.lists.proofs.Bools.{clash}
 use Rattle.ticks.specs.Times.{Is, ticks, timely}
 use Rattle.ticks.proofs.Rounds.{tick_pos, times_is, of_int_fact, over_is}
 use Rattle.ticks.proofs.Compared.{same, found, cut_is, above_is, under_is}
 use Rattle.ticks.proofs.Timely.{timely_is, timely_few, ticks_of, other}
+use Rattle.ticks.proofs.time.time_of.Goals.{else-n-lt-TICKS_END-via-then-n-lt-TICKS_END+else-n-x, else-n-lt-TICKS_END-via-else-n-lt-TICKS_END, else-y-via-then-y+else-y-2, else-y-via-else-y}
 use Rattle.ticks.proofs.time.time_of.Goals as goal
 
 -- times 1024, and a whole number divided by 1024
@@ -32,44 +33,32 @@ pub truncating_f64_to_u64-n-requires : goal.truncating_f64_to_u64-n-requires
 unfolding of_bits neg
 truncating_f64_to_u64-n-requires c = record { lower_bound = subst T (sym c.if-y.true) tt; upper_bound = subst T (sym c.if-y-2.true) tt }
 
-pub int_to_float-w : goal.int_to_float-w
-unfolding in_float
-int_to_float-w c =
-    let n = c.truncating_f64_to_u64-n.result in
-    let h : n ≤ 2 ^ 53 = omega arith in
-    le→leb n (2 ^ 53) h
-
-pub returns-then-w-x : goal.returns-then-w-x
+pub returns-then-n-x : goal.returns-then-n-x
 unfolding of_bits
-returns-then-w-x c =
+returns-then-n-x c =
     let x = c.args.x in
     let n = c.truncating_f64_to_u64-n.result in
     let l : n < 1048576 * 1024 = omega arith in
-    ticks_of x n (found 1024 tick_pos (back n) x n (back_is n l) c.if-w-x.true) l
-
-pub returns-else-w-x : goal.returns-else-w-x
-unfolding of_bits
-returns-else-w-x c =
-    let x = c.args.x in
-    let n = c.truncating_f64_to_u64-n.result in
-    let l : n < 1048576 * 1024 = omega arith in
-    other x (λ t.
-    let e : n ≡ ticks x = c.truncating_f64_to_u64-n.ensures ∙ cut_is (up x) (ticks x) (whole x t) (wide x t) in
-    clash (same 1024 tick_pos (back n) x n (back_is n l) (rw e (timely_is x t))) c.if-w-x.false)
+    ticks_of x n (found 1024 tick_pos (back n) x n (back_is n l) c.if-n-x.true) l
 
 pub returns-else-n-lt-TICKS_END : goal.returns-else-n-lt-TICKS_END
 unfolding of_bits
 returns-else-n-lt-TICKS_END c =
     let x = c.args.x in
+    let n = c.truncating_f64_to_u64-n.result in
     other x (λ t.
-    let e : c.truncating_f64_to_u64-n.result ≡ ticks x = c.truncating_f64_to_u64-n.ensures ∙ cut_is (up x) (ticks x) (whole x t) (wide x t) in
+    let e : n ≡ ticks x = c.truncating_f64_to_u64-n.ensures ∙ cut_is (up x) (ticks x) (whole x t) (wide x t) in
     let l = timely_few x t in
-    omega arith)
-
-pub returns-else-y-2 : goal.returns-else-y-2
-unfolding of_bits
-returns-else-y-2 c = let x = c.args.x in other x (λ t. clash (under_is (up x) (ticks x) (whole x t) (wide x t)) c.if-y-2.false)
+    elim c.else-n-lt-TICKS_END.branch [
+      | else-n-lt-TICKS_END-via-then-n-lt-TICKS_END+else-n-x w ↦ clash (same 1024 tick_pos (back n) x n (back_is n w.if-n-lt-TICKS_END.true) (rw e (timely_is x t))) w.if-n-x.false
+      | else-n-lt-TICKS_END-via-else-n-lt-TICKS_END w ↦ absurd (omega arith)
+    ])
 
 pub returns-else-y : goal.returns-else-y
 unfolding of_bits neg
-returns-else-y c = let x = c.args.x in other x (λ t. clash (above_is (up x) (ticks x) (whole x t)) c.if-y.false)
+returns-else-y c =
+    let x = c.args.x in
+    other x (λ t. elim c.else-y.branch [
+      | else-y-via-then-y+else-y-2 w ↦ clash (under_is (up x) (ticks x) (whole x t) (wide x t)) w.if-y-2.false
+      | else-y-via-else-y w ↦ clash (above_is (up x) (ticks x) (whole x t)) w.if-y.false
+    ])

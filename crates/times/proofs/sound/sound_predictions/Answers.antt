@@ -15,23 +15,6 @@ use Rattle.times.proofs.Laid.{predictions_long}
 use Rattle.times.proofs.Fitting.{none_fit}
 use Rattle.times.proofs.sound.sound_predictions.Goals as goal
 
-pub all_fit-fit-requires : goal.all_fit-fit-requires
-all_fit-fit-requires c =
-    let e = (let h : c.wide-n.result ≡ (tool_from (get_or c.args.m.now 0 [])).count = c.wide-n.ensures ∙ c.count.ensures in h) in
-    let few = c.requires.few_carriers in
-    record { held = c.requires; m_value = sym c.places.ensures ∙ c.if-places-eq0.true; n_bound = omega arith }
-
-pub none_after-requires : goal.none_after-requires
-none_after-requires c =
-    let e = (let h : c.wide-n.result ≡ (tool_from (get_or c.args.m.now 0 [])).count = c.wide-n.ensures ∙ c.count.ensures in h) in
-    let few = c.requires.few_carriers in
-    omega arith
-
-pub returns-then-places-eq0 : goal.returns-then-places-eq0
-unfolding sound_predictions
-returns-then-places-eq0 c =
-    rw (c.none_after.ensures, c.all_fit-fit.ensures, (let h : c.wide-n.result ≡ (tool_from (get_or c.args.m.now 0 [])).count = c.wide-n.ensures ∙ c.count.ensures in h))
-
 pub returns-else-places-eq0 : goal.returns-else-places-eq0
 unfolding sound_predictions
 returns-else-places-eq0 c =

@@ -16,11 +16,11 @@ returns c =
     let m = a.m.now in
     let l : length m ≡ 1891 = search rules in
     let w = length_seconds a.clock in
-    let e = c.put.ensures ∙ ap (sets m 1189) c.seconds_bytes-b.ensures.value in
+    let e = c.put.ensures ∙ ap (sets m 1189) c.seconds_bytes.ensures.value in
     let x = sets m 1189 (seconds_bytes a.clock) in
     let k = put_keeps m 1189 (seconds_bytes a.clock) 1189 1193 (omega arith) (omega arith) in record {
       m_after = ap times_from e ∙ rw (
-        seconds_there m 1189 a.clock (omega arith) c.seconds_bytes-b.ensures.n_bound,
+        seconds_there m 1189 a.clock (omega arith) c.seconds_bytes.ensures.n_bound,
         seconds_after 1189 1193 m x k 1193 (omega arith),
         seconds_after 1189 1193 m x k 1197 (omega arith),
       );

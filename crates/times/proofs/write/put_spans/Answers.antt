@@ -23,15 +23,15 @@ returns c =
     let long : length x ≡ 1891 = length-sets m 1193 (seconds_bytes a.setting) ∙ l in
     let e =
     c.put-2.ensures
-    ∙ ap₂ (λ u v. sets u 1197 v) (c.put.ensures ∙ ap (sets m 1193) c.seconds_bytes-s.ensures.value) c.seconds_bytes-t.ensures.value in
+    ∙ ap₂ (λ u v. sets u 1197 v) (c.put.ensures ∙ ap (sets m 1193) c.seconds_bytes.ensures.value) c.seconds_bytes-2.ensures.value in
     let j = put_keeps m 1193 (seconds_bytes a.setting) 1193 1201 (omega arith) (omega arith) in
     let k = put_keeps x 1197 (seconds_bytes a.timeout) 1197 1201 (omega arith) (omega arith) in record {
       m_after = ap times_from e ∙ rw (
         seconds_before 1197 1201 x y k 1189 (omega arith),
         seconds_before 1193 1201 m x j 1189 (omega arith),
         seconds_before 1197 1201 x y k 1193 (omega arith),
-        seconds_there m 1193 a.setting (omega arith) c.seconds_bytes-s.ensures.n_bound,
-        seconds_there x 1197 a.timeout (omega arith) c.seconds_bytes-t.ensures.n_bound,
+        seconds_there m 1193 a.setting (omega arith) c.seconds_bytes.ensures.n_bound,
+        seconds_there x 1197 a.timeout (omega arith) c.seconds_bytes-2.ensures.n_bound,
       );
       kept_outside = subst⁻¹ (KeptOutside 1193 1201 m) e
           (kept_twice 1193 1201 m x y j (put_keeps x 1197 (seconds_bytes a.timeout) 1193 1201 (omega arith) (omega arith)));

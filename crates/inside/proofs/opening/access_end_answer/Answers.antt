@@ -1,4 +1,0 @@
-use Rattle.inside.proofs.opening.access_end_answer.Goals as goal
-
-pub returns : goal.returns
-returns c = rw (c.first-3.ensures, c.first-2.ensures, c.first-a.ensures, c.first.ensures)

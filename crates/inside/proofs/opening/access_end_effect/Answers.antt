@@ -1,4 +1,0 @@
-use Rattle.inside.proofs.opening.access_end_effect.Goals as goal
-
-pub returns : goal.returns
-returns c = rw (c.on_record.ensures, c.with_accessing.ensures, c.first.ensures)

@@ -1,4 +1,0 @@
-use Rattle.ports.proofs.transfer.unload_start_answer.Goals as goal
-
-pub returns : goal.returns
-returns c = rw (c.first-2.ensures, c.first.ensures)
