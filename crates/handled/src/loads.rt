@@ -34,7 +34,7 @@ pub fn load_done(
 {
     let at = find_port(m, i);
     if at.alarm.held == ON {
-        refused(o, Refusal::Conditions)
+        refused(o, Err(Refusal::Conditions))
     } else if (at.port.movement == LOADING) & (at.alarm.on == ON) {
         no_reports(o);
         let holding = Alarm {
@@ -69,7 +69,7 @@ pub fn continue_step(
         return passed(m, o, Brought::alone(done), no_alarm());
     }
     if !at.is_port {
-        return refused(o, Refusal::OutOfRange);
+        return refused(o, Err(Refusal::OutOfRange));
     }
-    refused(o, Refusal::Conditions)
+    refused(o, Err(Refusal::Conditions))
 }

@@ -1,6 +1,6 @@
 // An input that goes on below, and then the alarms; and one that is refused here.
 ghost use Rattle.std.specs.Prelude.{◌≡◌, true, [], get_or};
-ghost use Rattle.records.specs.Refusals.{answer, number};
+ghost use Rattle.records.specs.Refusals.{answer};
 ghost use Rattle.rules.specs.Seen.{narrow};
 ghost use Rattle.rules.specs.Reports.{no_reports};
 ghost use Rattle.image.specs.Image.{tool_from, reports_from};
@@ -21,13 +21,13 @@ use sight::look::narrow;
 use wafers::input::Brought;
 use wafers::step::brought_step;
 
-// An answer with nothing to report.
-pub fn refused(o: &mut [u8; REPORTS_BYTES], refusal: Refusal) -> Result<(), Refusal>
-    ensures value { answer result ≡ number refusal }
+// An answer, whatever it is, with nothing to report.
+pub fn refused<A>(o: &mut [u8; REPORTS_BYTES], answer: A) -> A
+    ensures value { result ≡ answer }
     ensures o_after { reports_from o.new ≡ no_reports }
 {
     no_reports(o);
-    Err(refusal)
+    answer
 }
 
 // a is what becomes of the alarm of its port; where that is no port of the tool's, none.

@@ -77,7 +77,7 @@ pub fn start_step(
 {
     let by = narrow(i.timed.input.value);
     if AUTOMATIC < by {
-        return refused(o, Refusal::OutOfRange);
+        return refused(o, Err(Refusal::OutOfRange));
     }
     let at = find_port(m, i);
     if (by == AUTOMATIC) & (at.port.access == MANUAL) {
@@ -88,7 +88,7 @@ pub fn start_step(
             (number == LOAD_START) & started,
             is_ready(number, at.port),
         );
-        refused(o, refusal)
+        refused(o, Err(refusal))
     } else {
         passed(m, o, i, after_start(by, at))
     }

@@ -28,8 +28,8 @@ use sight::look::look;
 // was made, and the name of the one that went (no name: none), which can't be read off the bytes any more. These
 // are told of a refused input too (`Given`), so they stand beside the answer.
 #[derive(Clone, Copy)]
-pub struct Moved {
-    pub answer: Result<(), Refusal>,
+pub struct Moved<A = Result<(), Refusal>> {
+    pub answer: A,
     pub goes: usize,
     pub made: bool,
     pub gone: Name,

@@ -6,8 +6,10 @@ use mathlib.Core.Bool.{true, false, cond}
 use mathlib.Core.List.{List, []}
 use lib.ListN.{length, get_or, set}
 use lib.Dec.{eqb}
+use Rattle.std.specs.Prelude.{Result}
 use Rattle.lists.specs.Lists.{fill}
 use Rattle.records.specs.Refusals.{answer}
+use Rattle.records.specs.declared.refusal.Refusal.{Refusal}
 use Rattle.rules.specs.State as base
 use Rattle.rules.specs.Held.{Held}
 use Rattle.rules.specs.Reports.{listed, differences}
@@ -37,7 +39,7 @@ use Rattle.predicted.proofs.Held.{queue_is, held, none_after, state_sound}
 use Rattle.predicted.proofs.Followed as follows
 
 -- below, whether it is accepted or not
-pub record Left (m n : List (List ℕ)) (r : Moved) (i : Timed) : Type 0 where
+pub record Left (m n : List (List ℕ)) (r : Moved (Result Unit Refusal)) (i : Timed) : Type 0 where
   pub answered : answer r.answer ≡ answer_in (state_of (predicted_in m)) i
   pub times_stay : times_from (own_in n) ≡ times_from (own_in m)
   pub predictions_stay : predictions_from (own_in n) ≡ predictions_from (own_in m)
@@ -45,7 +47,7 @@ pub record Left (m n : List (List ℕ)) (r : Moved) (i : Timed) : Type 0 where
   pub base_is : base_in n ≡ outcome.after (state_of (predicted_in m)) i
 
 -- accepted below
-pub record Taken (m n : List (List ℕ)) (o : List ℕ) (r : Moved) (i : Timed) : Type 0 where
+pub record Taken (m n : List (List ℕ)) (o : List ℕ) (r : Moved (Result Unit Refusal)) (i : Timed) : Type 0 where
   pub accepts : answer_in (state_of (predicted_in m)) i ≡ 0
   pub tool_then : queued_in n ≡ queue.in_tool (outcome.below (state_of (predicted_in m)) i).after
   pub told_then : reports_from o ≡ listed (differences (base_of (state_of (predicted_in m))) (outcome.after (state_of (predicted_in m)) i))
@@ -61,7 +63,7 @@ pub record Laid (m n : List (List ℕ)) (w : List ℕ) (i : Timed) : Type 0 wher
   pub few : length (outcome.first (state_of (predicted_in m)) i) ≤ 36
   pub held_still : Held (tool_from (get_or (set n 1 w) 0 []))
 
-module _ (m n : List (List ℕ)) (o : List ℕ) (r : Moved) (i : Timed) (h : sound_tool (predicted_in m) ≡ true)
+module _ (m n : List (List ℕ)) (o : List ℕ) (r : Moved (Result Unit Refusal)) (i : Timed) (h : sound_tool (predicted_in m) ≡ true)
     (t : is_timed i.input.number ≡ false) (e : left n o r ≡ below.given_in (queued_in m) i.input)
     (k : KeptOutside 0 1189 (own_in m) (own_in n)) where
   abbrev state : Predicted

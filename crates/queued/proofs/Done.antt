@@ -7,9 +7,10 @@ use mathlib.Core.List.{List, []}
 use lib.ListN.{length, get_or, set, take, length-set}
 use lib.Seq.{take_all, get_or-set_same, get_or-set_other}
 use Rattle.lists.specs.Lists.{any, fill, without}
-use Rattle.std.specs.Prelude.{Ok}
+use Rattle.std.specs.Prelude.{Result, Ok}
 use Rattle.records.specs.Names.{no_name}
 use Rattle.records.specs.Refusals.{answer}
+use Rattle.records.specs.declared.refusal.Refusal.{Refusal}
 use Rattle.rules.specs.declared.row.Effect.{Effect}
 use Rattle.rules.specs.declared.tool.Tool.{Tool}
 use Rattle.rules.specs.Seen.{Input, narrow, see}
@@ -97,7 +98,7 @@ module _ (m : List (List ℕ)) (h : sound_tool (queued_in m) ≡ true) (i : Inpu
       )
 
   -- ── From the two blocks that are left ──
-  module _ (y w o : List ℕ) (r : Moved) (two : 1 < length m) (k : KeptOutside 900 1189 (get_or (set m 0 y) 1 []) w)
+  module _ (y w o : List ℕ) (r : Moved (Result Unit Refusal)) (two : 1 < length m) (k : KeptOutside 900 1189 (get_or (set m 0 y) 1 []) w)
       (l : Holds w (without (started_stands p (queue_of (own_in m))) (queue_of (own_in m))))
       (b : tool_from y ≡ applied (tool m h) act) (e : reports_from o ≡ note_all no_reports (told_by (tool m h) act))
       (v : r ≡ record { answer = Ok tt; goes = length (base_of s).carriers; made = false; gone = no_name }) where
@@ -124,8 +125,8 @@ module _ (m : List (List ℕ)) (h : sound_tool (queued_in m) ≡ true) (i : Inpu
       given_of (mapped_of (ap tool_from base_left ∙ b) (ap maps_from own_then ∙ maps_stay kept))
           (ap waiting_in own_then ∙ l.waiting ∙ ap length (sym queue_then) ∙ ap length (sym (take_all 16 (state_after s i).queue few_then)))
           (ap queue_from own_then ∙ l.queue ∙ ap (fill 16 no_request) (sym queue_then))
-          (ap (λ (x : Moved). answer x.answer) v) e (ap (λ (x : Moved). x.goes) v) (ap (λ (x : Moved). x.made) v)
-          (ap (λ (x : Moved). x.gone) v)
+          (ap (λ (x : Moved (Result Unit Refusal)). answer x.answer) v) e (ap (λ (x : Moved (Result Unit Refusal)). x.goes) v) (ap (λ (x : Moved (Result Unit Refusal)). x.made) v)
+          (ap (λ (x : Moved (Result Unit Refusal)). x.gone) v)
           ∙ given_is,
       subst⁻¹ (KeptOutside 0 1189 (own_in m)) own_then (kept_wider (omega arith) (omega arith) kept),
     )

@@ -123,23 +123,23 @@ module _ (m : List (List ℕ)) (h : sound_tool (queued_in m) ≡ true) (i : Inpu
   s = state_of t
 
   -- what is left where nothing moves
-  abbrev Stays : Result Unit Refusal → Moved → Type 0
+  abbrev Stays : Result Unit Refusal → Moved (Result Unit Refusal) → Type 0
   Stays a r = r ≡ record { answer = a; goes = (tool m h).count; made = false; gone = no_name }
 
-  pub refused_left : (a : Refusal) (o : List ℕ) (r : Moved) → answer_in s i ≡ number a → Stays (Err a) r → reports_from o ≡ no_reports
+  pub refused_left : (a : Refusal) (o : List ℕ) (r : Moved (Result Unit Refusal)) → answer_in s i ≡ number a → Stays (Err a) r → reports_from o ≡ no_reports
       → (left m o r ≡ given_in t i) × KeptOutside 0 1189 (own_in m) (own_in m)
   unfolding given_in
   refused_left a o r e p q = (rw (p, q, e, ne_eqb (number a) 0 (never_zero a)), kept_all 0 1189 (own_in m))
 
   -- refused with what refuses it, or else with 5
-  pub conditions_left : (said : Result Unit Refusal) (o : List ℕ) (r : Moved) → answer_in s i ≡ or_five (answer said)
+  pub conditions_left : (said : Result Unit Refusal) (o : List ℕ) (r : Moved (Result Unit Refusal)) → answer_in s i ≡ or_five (answer said)
       → Stays (result_and said (Err Conditions)) r → reports_from o ≡ no_reports
       → (left m o r ≡ given_in t i) × KeptOutside 0 1189 (own_in m) (own_in m)
   conditions_left (Ok u) o r e p q = refused_left Conditions o r e p q
   conditions_left (Err a) o r e p q = refused_left a o r (rw (ne_eqb (number a) 0 (never_zero a)) at e) p q
 
   -- refused below with the same number
-  pub below_refused : (a : ℕ) (n : List (List ℕ)) (o : List ℕ) (r : Moved) → maps.answer_in s.mapped i ≡ a → answer_in s i ≡ a → a ≢ 0
+  pub below_refused : (a : ℕ) (n : List (List ℕ)) (o : List ℕ) (r : Moved (Result Unit Refusal)) → maps.answer_in s.mapped i ≡ a → answer_in s i ≡ a → a ≢ 0
       → left n o r ≡ beside (waiting_in (own_in m)) (queue_from (own_in m)) (maps.given_in (mapped_in m) i)
       → KeptOutside 0 900 (own_in m) (own_in n) → (left n o r ≡ given_in t i) × KeptOutside 0 1189 (own_in m) (own_in n)
   unfolding given_in maps.given_in
@@ -178,7 +178,7 @@ module _ (m : List (List ℕ)) (h : sound_tool (queued_in m) ≡ true) (i : Inpu
         )
 
     -- accepted: another queue in the second block
-    pub alone_left : lowest gs ≡ 0 → (w o : List ℕ) (r : Moved) → 1 < length m → KeptOutside 900 1189 (own_in m) w → Holds w q
+    pub alone_left : lowest gs ≡ 0 → (w o : List ℕ) (r : Moved (Result Unit Refusal)) → 1 < length m → KeptOutside 900 1189 (own_in m) w → Holds w q
         → r ≡ record { answer = Ok tt; goes = (tool_from (get_or (set m 1 w) 0 [])).count; made = false; gone = no_name }
         → reports_from o ≡ no_reports
         → (left (set m 1 w) o r ≡ given_in t i) × KeptOutside 0 1189 (own_in m) (own_in (set m 1 w))
@@ -191,7 +191,7 @@ module _ (m : List (List ℕ)) (h : sound_tool (queued_in m) ≡ true) (i : Inpu
   -- ── A row that stands for one input below, which has left the bytes n ──
   module _ (j : Input) (gs : List Ground) (q : List Request)
       (row : row_in s i ≡ record { grounds = gs; stands = j ∷ []; queue = q }) (clear : lowest gs ≡ 0)
-      (n : List (List ℕ)) (o : List ℕ) (r : Moved)
+      (n : List (List ℕ)) (o : List ℕ) (r : Moved (Result Unit Refusal))
       (e : left n o r ≡ beside (waiting_in (own_in m)) (queue_from (own_in m)) (maps.given_in (mapped_in m) j))
       (k : KeptOutside 0 900 (own_in m) (own_in n)) where
     answer_below : maps.answer_in s.mapped j ≡ answer r.answer
@@ -231,7 +231,7 @@ module _ (m : List (List ℕ)) (h : sound_tool (queued_in m) ≡ true) (i : Inpu
 
   -- the same input, with the queue as it is
   pub passed_left : (gs : List Ground) → row_in s i ≡ passed_on gs (queue_of (own_in m)) i → lowest gs ≡ 0
-      → (n : List (List ℕ)) (o : List ℕ) (r : Moved)
+      → (n : List (List ℕ)) (o : List ℕ) (r : Moved (Result Unit Refusal))
       → left n o r ≡ beside (waiting_in (own_in m)) (queue_from (own_in m)) (maps.given_in (mapped_in m) i)
       → KeptOutside 0 900 (own_in m) (own_in n) → (left n o r ≡ given_in t i) × KeptOutside 0 1189 (own_in m) (own_in n)
   passed_left gs row clear n o r e k =

@@ -21,12 +21,8 @@ use records::name::Name;
 use records::refusal::Refusal;
 use rules::input::Input;
 
-// An answer with nothing to report, and no record that goes or is made.
-pub fn unmoved(
-    m: &[u8; TOOL_BYTES],
-    o: &mut [u8; REPORTS_BYTES],
-    answer: Result<(), Refusal>,
-) -> Moved
+// An answer, whatever it is, with nothing to report, and no record that goes or is made.
+pub fn unmoved<A>(m: &[u8; TOOL_BYTES], o: &mut [u8; REPORTS_BYTES], answer: A) -> Moved<A>
     ensures value { result ≡ record { answer = answer; goes = (tool_from m.now).count; made = false; gone = no_name } }
     ensures o_after { reports_from o.new ≡ no_reports }
 {

@@ -20,6 +20,7 @@ parts_at m =
     let name = read_item 5 m action.at action.count in
     let port = read_item 5 m name.at name.count in
     record {
+      five = eqb h.code LIST && eqb h.many 5;
       id = h.body;
       action = id.at;
       name = action.at;
@@ -33,7 +34,7 @@ code_at m at = (head_at m at).code
 
 unfoldable pub kinds_at : List ℕ → Parts → Bool
 kinds_at m p =
-    (eqb (head_at m 0).code LIST && eqb (head_at m 0).many 5)
+    p.five
     && is_unsigned (code_at m p.id)
     && eqb (code_at m p.action) ASCII
     && eqb (code_at m p.name) ASCII

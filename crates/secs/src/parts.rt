@@ -10,9 +10,10 @@ use items::head::*;
 use items::walk::*;
 use records::sizes::*;
 
-// Where each of the five begins; how many items have begun before the last, the list of attributes.
+// Whether there are five; where each begins; how many items have begun before the last, the list of attributes.
 #[derive(Clone, Copy)]
 pub struct Parts {
+    pub five: bool,
     pub id: usize,
     pub action: usize,
     pub name: usize,
@@ -33,6 +34,7 @@ pub fn parts_at(msg: &[u8]) -> Parts
     let name = item(msg, action.at, 5, action.count);
     let port = item(msg, name.at, 5, name.count);
     Parts {
+        five: is_list_of(h, 5),
         id: h.body,
         action: id.at,
         name: action.at,
@@ -62,7 +64,7 @@ fn kinds_at(msg: &[u8], p: Parts) -> bool
     ensures { result ≡ kinds_at msg.now p }
 {
     let id = head_at(msg, p.id);
-    is_list_of(head_at(msg, 0), 5)
+    p.five
         && is_unsigned(id.code)
         && is_at(msg, p.action, Format::Ascii)
         && is_at(msg, p.name, Format::Ascii)

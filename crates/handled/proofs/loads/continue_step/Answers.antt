@@ -1,7 +1,7 @@
-use Prim.Native.Nat.{ℕ}
-use mathlib.Core.Path.{◌≡◌, refl, ap, ap₂, sym, ◌∙◌}
+use mathlib.Core.Path.{refl, ap, ap₂, sym, ◌∙◌}
 use mathlib.Core.Bool.{cond}
 use borrow.Author.Tests.{not-true, not-false}
+use Rattle.records.specs.Refusals.{answer}
 use Rattle.rules.specs.Seen.{see, narrow}
 use Rattle.wafers.specs.Outcome.{Brought, brought_in, numbered}
 use Rattle.handled.specs.Bytes.{handled_in}
@@ -25,7 +25,7 @@ unfolding see
 returns-then-not-at-clause-result_after c =
     let at = c.find_port-at in
     refused_is c.args.m.now c.requires _ _ _ c.refused.ensures.o_after
-    (c.refused.ensures.value ∙ ap (λ b. cond b 5 1) (sym (not-true _ c.if-not-at.true) ∙ at.ensures.is_port))
+    (ap answer c.refused.ensures.value ∙ ap (λ b. cond b 5 1) (sym (not-true _ c.if-not-at.true) ∙ at.ensures.is_port))
     ∙ nothing_held c.args.m.now c.requires (numbered 36 (brought_in c.args.i)) _ at.ensures.alarm refl c.if-at-eq-ON.false
 
 pub returns-clause-result_after : goal.returns-clause-result_after
@@ -33,5 +33,5 @@ unfolding see
 returns-clause-result_after c =
     let at = c.find_port-at in
     refused_is c.args.m.now c.requires _ _ _ c.refused-2.ensures.o_after
-    (c.refused-2.ensures.value ∙ ap (λ b. cond b 5 1) (sym (not-false _ c.if-not-at.false) ∙ at.ensures.is_port))
+    (ap answer c.refused-2.ensures.value ∙ ap (λ b. cond b 5 1) (sym (not-false _ c.if-not-at.false) ∙ at.ensures.is_port))
     ∙ nothing_held c.args.m.now c.requires (numbered 36 (brought_in c.args.i)) _ at.ensures.alarm refl c.if-at-eq-ON.false

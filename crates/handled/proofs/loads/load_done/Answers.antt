@@ -1,8 +1,9 @@
 use native.Mathlib.Omega.{arith}
-use Prim.Native.Nat.{ℕ, ◌≤◌}
+use Prim.Native.Nat.{◌≤◌}
 use mathlib.Core.Path.{◌≡◌, refl, ap, sym, subst, ◌∙◌}
-use mathlib.Core.List.{List, []}
+use mathlib.Core.List.{[]}
 use lib.ListN.{get_or}
+use Rattle.records.specs.Refusals.{answer}
 use Rattle.rules.specs.State.{spot_of}
 use Rattle.rules.specs.Seen.{see, narrow}
 use Rattle.image.specs.Image.{tool_from}
@@ -27,7 +28,7 @@ pub returns-then-at-eq-ON-clause-result_after : goal.returns-then-at-eq-ON-claus
 unfolding see
 returns-then-at-eq-ON-clause-result_after c =
     let m = c.args.m.now in
-    refused_is m c.requires _ _ 5 c.refused.ensures.o_after c.refused.ensures.value
+    refused_is m c.requires _ _ 5 c.refused.ensures.o_after (ap answer c.refused.ensures.value)
     ∙ held_twice m c.requires (numbered 14 (brought_in c.args.i)) _ c.find_port-at.ensures.alarm refl c.if-at-eq-ON.true
 
 pub returns-then-at : goal.returns-then-at

@@ -1,9 +1,10 @@
-use mathlib.Core.Path.{ap, sym, ◌∙◌}
+use mathlib.Core.Path.{ap, ◌∙◌}
 use lib.Dec.{eqb}
 use mathlib.Core.Bool.{◌&&◌}
 use mathlib.Core.List.{List}
 use Prim.Native.Nat.{ℕ}
 use Rattle.lists.specs.Lists.{any}
+use Rattle.records.specs.Refusals.{answer}
 use Rattle.rules.specs.Seen.{see}
 use Rattle.follow.proofs.Entries.{kept_all}
 use Rattle.mapped.specs.Bytes.{own_in}
@@ -37,7 +38,7 @@ unfolding see
 returns-then-by-gt-AUTOMATIC c =
     let m = c.args.m.now in
     record {
-      result_after = refused_is m c.requires.m_value _ _ 1 c.refused.ensures.o_after c.refused.ensures.value
+      result_after = refused_is m c.requires.m_value _ _ 1 c.refused.ensures.o_after (ap answer c.refused.ensures.value)
           ∙ no_choice m c.requires.m_value (brought_in c.args.i) c.requires.number_value _ c.narrow-by.ensures c.if-by-gt-AUTOMATIC.true;
       kept_outside = kept_all 0 1605 (own_in m);
     }
@@ -50,7 +51,7 @@ returns-then-by-at c =
     let n = c.args.i.timed.input.number in
     let tested = ap (λ b. eqb n 13 && b) (c.some_started_to-started.ensures ∙ ap (λ p. any (started_to p) (state_of (handled_in m)).predicted.queued.queue) c.narrow.ensures) in
     record {
-      result_after = refused_is m c.requires.m_value _ _ _ c.refused-then-by-at.ensures.o_after c.refused-then-by-at.ensures.value
+      result_after = refused_is m c.requires.m_value _ _ _ c.refused-then-by-at.ensures.o_after (ap answer c.refused-then-by-at.ensures.value)
           ∙ automatic_in_manual m c.requires.m_value (brought_in c.args.i) c.requires.number_value _ c.narrow-by.ensures
           at.result.port at.ensures.port c.if-by-gt-AUTOMATIC.false c.if-by-at.true _ _ _ at.ensures.is_port tested c.is_ready.ensures _ c.not_automatic-refusal.ensures;
       kept_outside = kept_all 0 1605 (own_in m);
