@@ -16,9 +16,8 @@ awk -f "$root/tools/board.awk" "$3/module.ll" >&2 || { echo "board.sh: the modul
 # shellcheck disable=SC2086
 "$bin/clang" $for_module -S -emit-llvm -x c /dev/null -o - | grep '^target ' >"$3/board.ll"
 [ "$(wc -l <"$3/board.ll")" -eq 2 ] || { echo "board.sh: no triple and layout of $2" >&2; exit 1; }
-awk -f "$root/tools/pairs.awk" "$3/module.ll" |
-    sed -e '/^target /d' -e '/^attributes /s/ "target-cpu"="x86-64"//' -e '/^attributes /s/ "probe-stack"="inline-asm" "stack-probe-size"="[0-9]*"//' \
-        >>"$3/board.ll"
+sed -e '/^target /d' -e '/^attributes /s/ "target-cpu"="x86-64"//' -e '/^attributes /s/ "probe-stack"="inline-asm" "stack-probe-size"="[0-9]*"//' \
+    "$3/module.ll" >>"$3/board.ll"
 # shellcheck disable=SC2086
 "$bin/clang" $for_module --no-default-config -Werror -O2 -ffunction-sections -fdata-sections \
     -mllvm -trap-unreachable -mllvm -no-trap-after-noreturn -mllvm -disable-machine-licm \

@@ -40,7 +40,7 @@ pub const MOST_ITEMS: usize = 128;
 pub fn byte(msg: &[u8], at: usize) -> u8
     ensures { result ≡ get_or msg.now at 0 }
 {
-    msg.get(at).copied().unwrap_or(0)
+    if at < msg.len() { msg[at] } else { 0 }
 }
 
 // The number that n bytes stand for, high byte first.

@@ -5,3 +5,4 @@ pub mod Tables
 pub mod Tests
 pub mod Positions
 pub mod Library
+pub mod Ranges

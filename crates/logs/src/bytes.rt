@@ -7,5 +7,9 @@ pub fn byte(log: &[u8], at: usize) -> usize
     ensures value { result ≡ byte_at log.now at }
     ensures upper_bound { result < 256 }
 {
-    log.get(at).map_or(0, |byte| usize::from(*byte))
+    if at < log.len() {
+        usize::from(log[at])
+    } else {
+        0
+    }
 }

@@ -16,10 +16,13 @@ pub struct Stop {
 fn part(log: &[u8], at: usize, least: u8, greatest: u8, refusal: Refusal) -> Result<(), Stop>
     ensures { result ≡ read_part log.now at least greatest refusal }
 {
-    let byte = *log.get(at).ok_or(Stop {
-        refusal: Refusal::LogCutShort,
-        at,
-    })?;
+    if log.len() <= at {
+        return Err(Stop {
+            refusal: Refusal::LogCutShort,
+            at,
+        });
+    }
+    let byte = log[at];
     if least <= byte && byte <= greatest {
         Ok(())
     } else {

@@ -17,9 +17,8 @@ fn text(o: &[u8; REPORTS_BYTES], from: usize) -> &[u8]
     ensures upper_bound { length result.now ≤ 16 }
 {
     let bytes = &o[from..from + NAME_BYTES];
-    let n = bytes
-        .iter()
-        .position(|byte| *byte == 0)
+    let n = (0..NAME_BYTES)
+        .position(|i| bytes[i] == 0)
         .unwrap_or(NAME_BYTES);
     &bytes[..n]
 }

@@ -16,7 +16,7 @@ fn is_expected(codes: &[u8]) -> bool
     ensures { result ≡ is_expected codes.now }
 {
     codes.is_empty()
-        || codes.len() == SLOTS && codes.iter().all(|code| *code == EMPTY || *code == OCCUPIED)
+        || codes.len() == SLOTS && (0..SLOTS).all(|i| codes[i] == EMPTY || codes[i] == OCCUPIED)
 }
 
 // The 25 bytes from o on are each 1 or 3: `&` and `|`, since this runs over each record's map without a branch.

@@ -19,4 +19,3 @@ pub mod Allowed
 pub mod Named
 pub mod HeldBack
 pub mod Passed
-pub mod Ranges

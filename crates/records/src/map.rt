@@ -9,7 +9,7 @@ use crate::table::in_table;
 pub fn is_map(codes: &[u8]) -> bool
     ensures { result ≡ is_map codes.now }
 {
-    codes.len() == SLOTS && codes.iter().all(|code| *code <= CODE_GREATEST)
+    codes.len() == SLOTS && (0..SLOTS).all(|i| codes[i] <= CODE_GREATEST)
 }
 
 // The first 25 codes, with zeros after fewer.

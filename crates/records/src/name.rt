@@ -33,7 +33,7 @@ pub fn is_name(text: &[u8]) -> bool
     ensures { result ≡ is_name text.now }
 {
     match text.len() {
-        1..=NAME_BYTES => text.iter().all(|byte| is_graphic(*byte)),
+        1..=NAME_BYTES => (0..text.len()).all(|i| is_graphic(text[i])),
         _ => false,
     }
 }

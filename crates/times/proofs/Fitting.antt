@@ -10,7 +10,7 @@ use Rattle.lists.specs.Lists.{every}
 use Rattle.records.specs.declared.carrier.Carrier.{Carrier}
 use Rattle.records.specs.Carriers.{no_carrier}
 use Rattle.rules.specs.State.{State}
-use Rattle.queue.proofs.Ranges.{front, back}
+use Rattle.lists.proofs.Ranges.{front, back}
 use Rattle.prediction.specs.declared.prediction.Prediction.{Prediction}
 use Rattle.prediction.specs.Predictions.{no_prediction}
 use Rattle.prediction.specs.Model.{waiting_for_carrier}

@@ -1,6 +1,6 @@
 -- How a search by positions finds the first.
-use Prim.Native.Nat.{ℕ, suc, ◌+◌, ◌<◌, min}
-use native.Mathlib.Nat.{add-zero, add-suc, suc-add}
+use Prim.Native.Nat.{ℕ, suc, ◌+◌, ◌≤◌, ◌<◌, min}
+use native.Mathlib.Nat.{add-zero, add-suc, suc-add, zero-add}
 use native.Mathlib.Numerals.{add-one}
 use native.Mathlib.Omega.{arith}
 use mathlib.Core.Path.{◌≡◌, refl, sym, ap, ◌∙◌}
@@ -22,6 +22,9 @@ use Rattle.waiting.proofs.Where.{where_within, where_past}
 -- none before i waits: the first of the whole is i and the first of what is left
 abbrev pub Passed : List Carrier → ℕ → Type 0
 Passed l i = first_waiting l ≡ i + first_waiting (drop i l)
+
+pub none_passed : (l : List Carrier) → Passed l 0
+none_passed l = sym (zero-add (first_waiting l))
 
 module _ (l : List Carrier) (i : ℕ) (d : Carrier) (b : i < length l) (p : Passed l i) where
   pub one_passed : waits (get_or l i d) ≡ false → Passed l (i + 1)
@@ -64,6 +67,13 @@ first_is l = is_position_or_len first_waiting waits refl (λ x xs. rw (one_more 
 
 split : (l : List Carrier) → position waits l ≡ cond (some_waits l) (Some (first_waiting l)) None
 split l = rw (reached l, first_is l)
+
+-- the same where the search stopped, and where it went through
+pub some_found : (l : List Carrier) (k : ℕ) → k < length l → k ≡ first_waiting l → Some k ≡ position waits l
+some_found l k h e = rw (sym (e ∙ first_is l), lt-ltb k (length l) h)
+
+pub none_found : (l : List Carrier) → length l ≡ first_waiting l → None ≡ position waits l
+none_found l e = let h : length l ≤ length l = omega arith in rw (sym (e ∙ first_is l), le-ltb (length l) (length l) h)
 
 pub first_or_end : (l : List Carrier) → unwrap_or (position waits l) (length l) ≡ first_waiting l
 first_or_end l = rw (split l) (go (some_waits l) refl)

@@ -25,7 +25,12 @@ pub fn waits_for_host(c: Carrier) -> bool
 pub fn first_waiting(table: &[Carrier]) -> Option<usize>
     ensures { result ≡ position waits table.now }
 {
-    table.iter().position(|carrier| waits_for_host(*carrier))
+    for k in 0..table.len() {
+        if waits_for_host(table[k]) {
+            return Some(k);
+        }
+    }
+    None
 }
 
 // What a search says that stopped at a position of a table of n records, or at its end.

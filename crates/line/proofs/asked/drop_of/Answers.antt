@@ -2,7 +2,7 @@ use native.Mathlib.Omega.{arith}
 use mathlib.Core.Path.{◌≡◌, refl}
 use Prim.Native.Nat.{ℕ}
 use lib.ListN.{length}
-use Rattle.queue.proofs.Ranges.{where_or}
+use Rattle.lists.proofs.Ranges.{where_or}
 use Rattle.line.specs.Bytes.{queue_of}
 use Rattle.std.specs.List.{position}
 use Rattle.queue.specs.Requests.{waits_of}

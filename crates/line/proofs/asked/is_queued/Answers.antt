@@ -1,6 +1,6 @@
 use Rattle.std.proofs.Common.{rules, tests}
 use mathlib.Core.Path.{ap, ◌∙◌}
-use Rattle.queue.proofs.Ranges.{some_where}
+use Rattle.lists.proofs.Ranges.{some_where}
 use Rattle.line.specs.Bytes.{queue_of}
 use Rattle.std.specs.Option.{is_some}
 use Rattle.records.proofs.Names.{equal_names}

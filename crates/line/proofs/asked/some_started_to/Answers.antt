@@ -1,5 +1,5 @@
 use mathlib.Core.Path.{ap, ◌∙◌}
-use Rattle.queue.proofs.Ranges.{some_where}
+use Rattle.lists.proofs.Ranges.{some_where}
 use Rattle.line.specs.Bytes.{queue_of}
 use Rattle.std.specs.Option.{is_some}
 use Rattle.queue.specs.Requests.{started_to}

@@ -1,6 +1,6 @@
 use mathlib.Core.Path.{◌≡◌, ◌∙◌}
 use lib.ListN.{length}
-use Rattle.queue.proofs.Ranges.{where_or}
+use Rattle.lists.proofs.Ranges.{where_or}
 use Rattle.line.specs.Bytes.{queue_of}
 use Rattle.queue.specs.Requests.{started_to}
 use Rattle.queue.specs.Requests.{started_to}

@@ -3,7 +3,7 @@ use native.Mathlib.Omega.{arith}
 use mathlib.Core.Path.{refl}
 use lib.ListN.{get_or}
 use Rattle.queue.specs.Requests.{no_request}
-use Rattle.queue.proofs.Ranges.{position_answered}
+use Rattle.lists.proofs.Ranges.{position_answered}
 use Rattle.line.specs.Bytes.{queue_from}
 use Rattle.line.proofs.Laid.{queue_long}
 use Rattle.line.proofs.find.position_of.Goals as goal

@@ -3,7 +3,7 @@ use native.Mathlib.Omega.{arith}
 use mathlib.Core.Path.{◌≡◌, sym, ◌∙◌}
 use mathlib.Core.List.{[]}
 use lib.ListN.{length, get_or, take}
-use Rattle.queue.proofs.Ranges.{where_or}
+use Rattle.lists.proofs.Ranges.{where_or}
 use Rattle.line.specs.Bytes.{queue_from}
 use Rattle.line.proofs.Laid.{queue_long}
 use lib.Seq.{length-take-le}

@@ -7,7 +7,7 @@ use Rattle.std.proofs.lemmas.Iterator.{YieldsList-from_range}
 use Rattle.std.proofs.lemmas.Iterator.Search.{all_from_yields_List}
 use Rattle.lists.specs.Lists.{every}
 use Rattle.queue.specs.Requests.{no_request}
-use Rattle.queue.proofs.Ranges.{two_on}
+use Rattle.lists.proofs.Ranges.{two_on}
 use Rattle.line.specs.Bytes.{queue_from}
 use Rattle.line.specs.Tests.{apart}
 use Rattle.line.proofs.Laid.{queue_long}

@@ -6,7 +6,7 @@ use lib.ListN.{get_or}
 use Rattle.rules.specs.State.{state_of}
 use Rattle.image.specs.Image.{tool_from}
 use Rattle.queue.specs.Requests.{no_request}
-use Rattle.queue.proofs.Ranges.{all_answered}
+use Rattle.lists.proofs.Ranges.{all_answered}
 use Rattle.line.specs.Bytes.{queue_from}
 use Rattle.line.specs.Tests.{fits_in}
 use Rattle.line.proofs.Laid.{queue_long}

@@ -4,7 +4,7 @@ use Prim.Native.Nat.{◌+◌}
 use mathlib.Core.Path.{refl}
 use lib.ListN.{get_or}
 use Rattle.queue.specs.Requests.{no_request}
-use Rattle.queue.proofs.Ranges.{all_answered}
+use Rattle.lists.proofs.Ranges.{all_answered}
 use Rattle.line.specs.Bytes.{queue_from}
 use Rattle.line.specs.Tests.{apart}
 use Rattle.line.proofs.Laid.{queue_long}

@@ -3,7 +3,7 @@ use native.Mathlib.Omega.{arith}
 use mathlib.Core.Path.{◌≡◌, ap, sym, ◌∙◌}
 use Prim.Native.Nat.{ℕ, ◌≤◌, ◌<◌}
 use lib.ListN.{get_or, take}
-use Rattle.queue.proofs.Ranges.{position_answered, where_or}
+use Rattle.lists.proofs.Ranges.{position_answered, where_or}
 use lib.Seq.{length-take-le}
 use Rattle.std.specs.List.{position}
 use Rattle.records.proofs.Names.{equal_names}

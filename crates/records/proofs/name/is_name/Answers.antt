@@ -1,8 +1,11 @@
 -- Sixteen bytes at most, and each of them passes.
-use Rattle.lists.proofs.Library.{passed}
-use Rattle.std.proofs.lemmas.Grind.{common_steps}
+use Rattle.std.proofs.Common.{rules, tests}
 use native.Mathlib.Omega.{arith}
+use mathlib.Core.Path.{refl, ap, ◌∙◌}
 use lib.ListN.{length}
+use lib.Seq.{take_all}
+use Rattle.lists.specs.Lists.{every}
+use Rattle.lists.proofs.Ranges.{all_answered}
 use borrow.Author.Tests.{le-leb, lt-leb}
 use Rattle.records.specs.Names.{graphic, is_name}
 use Rattle.records.proofs.name.is_name.Goals as goal
@@ -11,7 +14,9 @@ pub returns-in-1-to-16 : goal.returns-in-1-to-16
 unfolding is_name
 returns-in-1-to-16 c =
     let t = c.args.text.now in
-    rw (le-leb 1 (length t) (omega arith), le-leb (length t) 16 (omega arith)) (passed graphic t c.all.result (grind (arith, common_steps)))
+    rw (le-leb 1 (length t) (omega arith), le-leb (length t) 16 (omega arith))
+    (all_answered c.all.result graphic t 0 0 (length t) refl (omega arith) (omega arith) c.all.ensures.ran (λ x b q k. search (rules, tests))
+    ∙ ap (every graphic) (take_all (length t) t (omega arith)))
 
 pub returns-in_default : goal.returns-in_default
 unfolding is_name
