@@ -15,9 +15,17 @@ by_table : (P : List ℕ → Type 0) (n : ℕ) (l : List ℕ) → length l ≡ n
 by_table P n l e h = subst P (is_table l n 0 e) (h (λ k. get_or l k 0))
 
 pub port_made : (t a r v p g : ℕ) (n : List ℕ) → length n ≡ 16
-    → set (set (set (set (set (set (sets (replicate 22 0) 3 n) 0 t) 1 a) 2 r) 19 v) 20 p) 21 g ≡ t ∷ a ∷ r ∷ (n ++ (v ∷ p ∷ g ∷ []))
+    → set (set (set (sets (t ∷ a ∷ r ∷ replicate 19 0) 3 n) 19 v) 20 p) 21 g ≡ t ∷ a ∷ r ∷ (n ++ (v ∷ p ∷ g ∷ []))
 unfolding table
 port_made t a r v p g n e =
+    by_table (λ n. set (set (set (sets (t ∷ a ∷ r ∷ replicate 19 0) 3 n) 19 v) 20 p) 21 g ≡ t ∷ a ∷ r ∷ (n ++ (v ∷ p ∷ g ∷ []))) 16 n e
+    (λ f. refl)
+
+-- the same where the tie is put first
+pub port_written : (t a r v p g : ℕ) (n : List ℕ) → length n ≡ 16
+    → set (set (set (set (set (set (sets (replicate 22 0) 3 n) 0 t) 1 a) 2 r) 19 v) 20 p) 21 g ≡ t ∷ a ∷ r ∷ (n ++ (v ∷ p ∷ g ∷ []))
+unfolding table
+port_written t a r v p g n e =
     by_table (λ n. set (set (set (set (set (set (sets (replicate 22 0) 3 n) 0 t) 1 a) 2 r) 19 v) 20 p) 21 g ≡ t ∷ a ∷ r ∷ (n ++ (v ∷ p ∷ g ∷ []))) 16 n e
     (λ f. refl)
 

@@ -2,6 +2,7 @@
 #![tactic(auto)]
 
 pub mod carrier;
+pub mod fill;
 pub mod map;
 pub mod name;
 pub mod port;

@@ -2,14 +2,13 @@
 ghost use Rattle.std.specs.Prelude.{◌≡◌};
 ghost use Rattle.lists.specs.Lists.{fill};
 
+use crate::fill::fill;
+
 // What fits of a list, with zeros after a shorter one.
 pub fn in_table<const N: usize>(list: &[u8]) -> [u8; N]
     ensures { result ≡ fill N 0 list.now }
 {
     let mut table = [0; N];
-    // a loop, since `copy_from_slice` of a length that varies isn't fit for boards (`tools/board.awk`)
-    for i in 0..N.min(list.len()) {
-        table[i] = list[i];
-    }
+    fill(&mut table, list);
     table
 }

@@ -1,4 +1,4 @@
--- One time: `timely` says of a float that it is exactly a number of ticks below 1,048,576 seconds, and which of the two a `Time` is.
+-- One time: `timely` says of a float that it is exactly a number of ticks below 1,048,576 seconds, and `time_of` gives that number, or none.
 use Rattle.std.proofs.Common.{◌≡◌, ℕ, ◌*◌, ◌/◌, ◌%◌, ◌<◌, Bool, true, false, cond, ◌&&◌, ℤ, Some, None, sym, refl, ap, ◌∙◌, add-zero, div-add-mod', zero-mul, mul-div_cancel, ltb-true, lt-ltb, eq-eqb, eqb-true}
 use native.Mathlib.Nat.{mul-mod_left, eq_of_mul-eq-mul_right}
 use lib.Ieee.{Float, nan, inf, fin, up, down}
@@ -76,3 +76,19 @@ other x h = go (timely x) h
     go : (b : Bool) → (b ≡ true → ⊥) → None ≡ cond b (Some (ticks x)) None
     go true h = absurd (h refl)
     go false h = refl
+
+pub told_ticks : (x : Float) (n : ℕ) → Some n ≡ time_of x → true ≡ timely x
+unfolding time_of
+told_ticks x n h = go (timely x) h
+  where
+    go : (b : Bool) → Some n ≡ cond b (Some (ticks x)) None → true ≡ b
+    go true e = refl
+    go false e = cc
+
+pub told_other : (x : Float) → None ≡ time_of x → false ≡ timely x
+unfolding time_of
+told_other x h = go (timely x) h
+  where
+    go : (b : Bool) → None ≡ cond b (Some (ticks x)) None → false ≡ b
+    go true e = cc
+    go false e = refl

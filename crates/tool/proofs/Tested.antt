@@ -65,7 +65,7 @@ module _ (t : Tool) (m : List ℕ) (h : base_sound.sound_tool t ≡ true) (k : H
   unfolding maps.sound
   state_sound = rw (tool_sound t h, eq-eqb _ _ as_many)
 
-  maps_tested : (every is_kept (take t.count (maps_from m)) && every is_none (drop t.count (maps_from m))) ≡ maps.sound_tool both
+  pub maps_tested : (every is_kept (take t.count (maps_from m)) && every is_none (drop t.count (maps_from m))) ≡ maps.sound_tool both
   unfolding maps.sound_tool
   maps_tested = rw (h, state_sound) (and_comm (every is_kept (take t.count (maps_from m))) _)
 

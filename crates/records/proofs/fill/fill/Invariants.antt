@@ -2,7 +2,7 @@
 use mathlib.Core.Path.{◌≡◌}
 use lib.ListN.{length, take}
 use Rattle.lists.specs.Lists.{fill}
-use Rattle.records.proofs.table.in_table.Given as goal
+use Rattle.records.proofs.fill.fill.Given as goal
 
 abbrev pub invariant-loop-i : goal.invariant-loop-i
-invariant-loop-i g l = (length l.table ≡ g.row.N) × (l.table ≡ fill g.row.N 0 (take l.i l.list))
+invariant-loop-i l = (length l.table ≡ length l.initial.table) × (l.table ≡ fill (length l.initial.table) 0 (take l.i l.list))
